@@ -10,15 +10,15 @@ use std::alloc::{AllocError, Global};
 use std::collections::LinkedList;
 use std::marker::{Model, PhantomData};
 
-/// Flags that were set in a word, and the word as it was found. No value of it is made.
+/// Flags that were set in a word, and the word as it was found. This crate makes no value of it.
 pub struct FlagSet {
     pub word: usize,
     pub bits: u64,
     pub found: u64,
 }
 
-/// What a thread knows: how many parts it has of the right to set flags, and those that it set, with what it found there. No value of
-/// it is made.
+/// What a thread knows: how many parts it has of the right to set flags, and those that it set, with what it found there. This
+/// crate makes no value of it.
 pub struct View {
     parts: u64,
     sets: LinkedList<FlagSet>,

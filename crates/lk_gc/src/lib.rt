@@ -1,7 +1,7 @@
 //! The traversal of a link by any number of workers, and what files and groups are in it. Gives on what `lk_live` names at its top, but
 //! for its modules `faults` and `traversal`, and the types of `lk_workers`' traversal, with `FlagPass` and `Reach` of `lk_flags` and
-//! some calls of `lk_reach`; contracts on that name words of `lk_workers`. The state of a group that a worker steps is called
-//! `WorkerState` here.
+//! some calls of `lk_reach`; contracts on that name words of `lk_workers`, `lk_flags`, `lk_slots`, `lk_slot_link` and
+//! `lk_reach`. The state of a group that a worker steps is called `WorkerState` here.
 #![tactic(auto)]
 
 mod faults_by_groups;

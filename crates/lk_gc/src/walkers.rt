@@ -1,7 +1,8 @@
 //! How many workers look for what is reached.
 //!
 //! A worker goes through a list of asks once for each unit that asks for it; a walk on one thread goes through it for the first one alone.
-//! Where a long list is shared by many units, workers would take the product of the two numbers, so such a link is walked on one thread.
+//! Where a long list is shared by many units, workers would take the product of the two numbers, so for such a link 1 is
+//! answered at most, of which no clause tells.
 
 ghost use Rattle.std.specs.Prelude.{◌≡◌, ◌≤◌, ◌⊎◌, min};
 
@@ -15,8 +16,8 @@ pub const MOST_WORKERS: u32 = 64;
 const SHORT: usize = 64;
 
 /// How many workers look for what is reached of a link, where so many are asked for: these, but 64 at most; or 1 at most, where many
-/// units share a long list of asks. Which of both it is no clause says. Looks once at each file, and at symbols and sections of those
-/// whose lists may be long; takes no memory.
+/// units share a long list of asks. Which of both it is no clause says. Nor does one say how much it looks at: each file at most
+/// once, and symbols and sections of those whose lists may be long. Takes no memory.
 pub fn walkers(link: &LinkInput, workers: u32) -> u32
     ensures few { result ≤ 64 }
     ensures asked { result ≤ workers }

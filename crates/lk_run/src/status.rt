@@ -9,7 +9,7 @@ use std::process::ExitCode;
 /// How a run ended, and what it wrote.
 #[derive(Clone, Copy, Debug, PartialEq, Eq)]
 pub enum Status {
-    /// The command is done; what it tells is written: a report, a line, a path, or what a map has.
+    /// The command is done; what it tells is written: a report, a line, a path, what a map has, or an image.
     Done = 0,
     /// What the command speaks of is refused; the text of the fault is written.
     Refused = 1,

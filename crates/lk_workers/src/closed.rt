@@ -162,7 +162,8 @@ impl<J: Reach> Closed<J> {
     }
 
     /// Whether a group of the traversal's link has no open ask: the units that its files and its done units ask for are done, and the
-    /// flags that they set are in the words. Takes no memory; looks at each unit of the group, and at each ask of those that are done.
+    /// flags that they set are in the words. Takes no memory. It looks at each unit of the group, and at each ask of those that are
+    /// done, until one is open, which no clause says.
     pub fn is_closed(&self, link: &LinkInput, group: u32) -> bool
         requires { AreListsOf J.lists link.now }
         ensures { result ≡ is_group_closed self.now link.now group }
@@ -222,7 +223,8 @@ impl<J: Reach> Closed<J> {
     }
 }
 
-/// Which of so many workers looks at a file. Neighbours go to different ones, so a group of many files is shared as well.
+/// Which of so many workers looks at a file. Where there are two or more, neighbours go to different ones, so a group of many files is
+/// shared as well.
 fn worker_of(file: FileId, workers: usize) -> usize
     requires { 0 < workers }
     ensures { result ≡ worker_of workers file }
@@ -238,7 +240,7 @@ fn are_all(answers: &[bool]) -> bool
 }
 
 impl<J: Reach + Send + Sync> Closed<J> {
-    /// Whether the share of each of so many workers is closed, as they find side by side, each on a thread of its own.
+    /// Whether the share of each of so many workers is closed, as they find side by side.
     fn shares<R: Threads + Sync>(
         &self,
         rt: &R,
@@ -278,8 +280,8 @@ impl<J: Reach + Send + Sync> Closed<J> {
         Ok(are_all(shares.as_slice()))
     }
 
-    /// The same as `is_whole`, looked for by so many workers side by side, each on a thread of its own; none counts as one. Takes a
-    /// mark for each worker.
+    /// The same as `is_whole`, looked for by so many workers side by side, one of them on the caller's thread; none counts as one. How
+    /// many threads there are, and that it takes a mark for each worker, no clause says.
     pub fn is_whole_by_workers<R: Threads + Sync>(
         &self,
         rt: &R,
@@ -294,7 +296,8 @@ impl<J: Reach + Send + Sync> Closed<J> {
     }
 
     /// The marks and the words, as they are, exactly where no group has an open ask: then they are all that is reached, and all flags.
-    /// So many workers look for an open ask side by side, each on a thread of its own; none counts as one. Takes a mark for each worker.
+    /// So many workers look for an open ask side by side, one of them on the caller's thread; none counts as one. How many threads there
+    /// are, and that it takes a mark for each worker, no clause says.
     pub fn into_whole<R: Threads + Sync>(
         self,
         rt: &R,

@@ -10,8 +10,8 @@ use lk_flags::Reach;
 use std::marker::Model;
 use std::sync::Mutex;
 
-/// Lists of marks. It exists in proofs alone and takes no bytes. Only `Opened::open` adds to it, by a call that no other module has: the
-/// marks of the symbols and of the sections that are done in a state, as it comes out of a lock.
+/// Lists of marks. It exists in proofs alone; that it takes no bytes no clause says. Only `Opened::open` adds to it, by a call that no
+/// other module has: the marks of the symbols and of the sections that are done in a state, as it comes out of a lock.
 #[derive(Drop)]
 pub struct Opened {
     ghost marks: { List Ranged },

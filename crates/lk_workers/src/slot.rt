@@ -12,8 +12,8 @@ use std::alloc::{AllocError, AllocFailed, Global};
 use std::marker::{Model, PhantomData};
 use std::mem;
 
-/// The items that a group's steps noted as left for others, in order. It exists in proofs alone and takes no bytes. Only
-/// `WorkerSlot::deposit` adds to it, once for each, by a call that no other module has.
+/// The items that a group's steps noted as left for others, in order. It exists in proofs alone; that it takes no bytes no
+/// clause says. Only `WorkerSlot::deposit` adds to it, once for each, by a call that no other module has.
 #[derive(Drop)]
 pub struct Sent {
     ghost items: { List WorkItem },
@@ -43,7 +43,7 @@ impl Sent {
 }
 
 /// A group's slot: whether the group is parked, and what others left for it. A parked group has nothing waiting, and all that waits is
-/// the group's own and there is reason for it. It lies behind a lock (libwild: `WorkerSlot`).
+/// the group's own and there is reason for it. In a traversal it lies behind a lock (libwild: `WorkerSlot`).
 #[derive(Drop)]
 pub struct WorkerSlot<J: Reach> {
     group: u32,

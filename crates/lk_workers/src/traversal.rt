@@ -1,5 +1,5 @@
 //! What workers share: the slots and the states of all groups, each behind a lock of its own, the words of flags, and the groups that
-//! can run. Locks are taken in this order: a state, then a slot, then the groups that can run.
+//! can run. Locks are taken in this order: a state, then a slot, then the groups that can run; no clause says so.
 
 ghost use Rattle.std.specs.Prelude.{◌≡◌, ◌<◌, ◌+◌, ◌-◌, ◌*◌, ◌++◌, ◌∷◌, [], true, IfNone, IfOk, IfSome, OnErr, OnOk, SomeIff, map, None, Some, length, slice_get, slice_index};
 ghost use Rattle.lk_flags.specs.Flags.{AreIn, AreInTurn, HaveNoMore, IsFound, Within, all_parts};
@@ -360,8 +360,9 @@ impl<J: Reach> Traversal<'_, J> {
     }
 
     /// Leaves an item in a slot of its group, and adds it to what was sent. Without memory, or without such a slot, the item is given up,
-    /// and what was sent stays as it is. No clause says that the slot is the one that the group looks into, nor that a group that had
-    /// parked can run from then on; where there is no memory to note that it can, what it was left stays undone.
+    /// and what was sent stays as it is. No clause says that the slot is the one that the group looks into, that the item is left once,
+    /// or that it, and what waited there before, waits there behind the call; nor that a group that had parked can run from then on;
+    /// where there is no memory to note that it can, what it was left stays undone.
     pub fn send<R: Wait>(
         &self,
         rt: &R,

@@ -45,7 +45,7 @@ impl WorkItem {
     }
 }
 
-/// What waits to be done, in the order in which it was asked for (libwild: `LocalWorkQueue`). Contracts see the list.
+/// What waits to be done, in the order in which it was added (libwild: `LocalWorkQueue`). Contracts see the list.
 #[derive(Drop)]
 pub struct LocalWorkQueue {
     pub(crate) items: Vec<WorkItem>,

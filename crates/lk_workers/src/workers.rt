@@ -105,8 +105,8 @@ fn walk<J: Reach + Send + Sync, R: Threads + Wait + Sync, G: Gate + Sync>(
 }
 
 /// What is reached of a link: for each unit whether it is, and behind a spare word the flags of each symbol. How that is found no clause
-/// says: by so many workers, but one for each group at most, each on a thread of its own, which enter the gate before each step. A
-/// worker that finds no memory gives up what it was about to do, and goes on; where anything is open at the end, the answer is that
+/// says: by so many workers, but one for each group at most, each on a thread, of which the caller's is one, which enter the gate before each
+/// step. A worker that finds no memory gives up what it was about to do, and goes on; where anything is open at the end, the answer is that
 /// memory ran out. So it is with no worker where anything is asked for; of that a clause says that then it answers `Ok` only where all
 /// flags are those that are handed in (libwild: `traverse_reference_graph`).
 pub fn walk_by_workers<R: Threads + Wait + Sync, G: Gate + Sync>(
