@@ -315,6 +315,51 @@ image_complete words workers bytes from to before after status asked left good c
     let given = read_answer words (commands.Image workers) from to finished.answer asked refl finished.defined in
     finished.same ∙ imaged_done workers bytes given.held finished.answer good clear (subst (λ o. Holds o given.held) left given.holds) given.answers) run faultless
 
+-- ---- why a section is kept
+
+section_done : (link : LinkInput) (file : FileId) (index : ℕ) (answer : Answer) → has_unit link (Sec file index) ≡ true
+    → IsSectionAnswer link file index answer → answer.status ≡ Done
+section_done link file index answer there is =
+    let told : IsWayAnswer link file index answer =
+        subst (λ b. MatchBool b (IsWayAnswer link file index answer) (answer ≡ refused (no_section_text file index))) there is in
+    ap (λ (a : Answer). a.status) told.2
+
+why_done : (bytes : List ℕ) (file : FileId) (index : ℕ) (held : Held) (answer : Answer) → DescribesSection bytes file index → Holds (Some bytes) held
+    → IsAnswerTo (commands.Why file index) held answer → answer.status ≡ Done
+why_done bytes file index (Whole b) answer good holds is =
+    let described : reading_of b ≡ Ok good.link = ap reading_of (sym holds.1) ∙ good.described in
+    let answers : IsWhyAnswer file index good.link answer = subst (λ r. IsAnswerToReading (IsWhyAnswer file index) r answer) described is in
+    section_done good.link file index answer good.there
+    (subst (λ o. MatchOption o (IsSectionAnswer good.link file index answer) (λ fault. answer ≡ refused (link_fault_line fault))) good.unfaulted answers)
+why_done bytes file index Longer answer good holds is = absurd (omega (arith, good.fits, holds))
+
+pub why_complete : WhyRunsAreComplete
+why_complete words file index bytes from to before after status asked left good run faultless =
+    completes words from to before after status (λ s finished.
+    let given = read_answer words (commands.Why file index) from to finished.answer asked refl finished.defined in
+    finished.same ∙ why_done bytes file index given.held finished.answer good (subst (λ o. Holds o given.held) left given.holds) given.answers) run faultless
+
+-- ---- a good map
+
+verdict_done : VerdictsTellGood → (sections : List SectionLine) (segments : List SegmentLine) (verdict : Result (Unit {0}) MapFault) (answer : Answer)
+    → IsGood sections segments → IsVerdict verdict sections segments → answer ≡ judged sections segments verdict → answer.status ≡ Done
+verdict_done law sections segments verdict answer good judges is =
+    ap (λ (a : Answer). a.status) (is ∙ ap (judged sections segments) ((law sections segments verdict judges).1 good))
+
+check_done : VerdictsTellGood → (bytes : List ℕ) (held : Held) (answer : Answer) → AreGoodMap bytes → Holds (Some bytes) held
+    → IsAnswerTo commands.Check held answer → answer.status ≡ Done
+check_done law bytes (Whole b) answer map holds is =
+    let said : map_of b ≡ Ok (map.sections, map.segments) = ap map_of (sym holds.1) ∙ map.read in
+    let answers : IsMapAnswer (Ok (map.sections, map.segments)) answer = subst (λ r. IsMapAnswer r answer) said is in
+    verdict_done law map.sections map.segments answers.0 answer map.good answers.1 answers.2
+check_done law bytes Longer answer map holds is = absurd (omega (arith, map.fits, holds))
+
+pub check_complete : VerdictsTellGood → CheckRunsAreComplete
+check_complete law words bytes from to before after status asked left map run faultless =
+    completes words from to before after status (λ s finished.
+    let given = read_answer words commands.Check from to finished.answer asked refl finished.defined in
+    finished.same ∙ check_done law bytes given.held finished.answer map (subst (λ o. Holds o given.held) left given.holds) given.answers) run faultless
+
 -- ---- a generated link that meets no refusal
 
 summed_up_laid_out : (seed size : ℕ) (result : Result LayoutRecord LayoutError) (answer : Answer)

@@ -1,8 +1,16 @@
 -- Laws: what the words and the input define is what a run tells, unless a device fails or memory runs out.
-use Rattle.std.specs.Prelude.{◌≡◌, ℕ, ◌≤◌, List, [], length, Option, Ok, Err, None, Some, MatchBool, ◌⊎◌}
+use Rattle.std.specs.Prelude.{◌≡◌, ℕ, ◌≤◌, List, [], length, Option, Ok, Err, None, Some, MatchBool, ◌⊎◌, true}
+use Rattle.lk_check.specs.FirstFault.{first_fault}
+use Rattle.lk_explain.specs.Faults.{has_unit}
 use Rattle.lk_generator.specs.Generated.{generated_link}
 use Rattle.lk_input.specs.Reading.{reading_of}
+use Rattle.lk_link.specs.declared.ids.FileId.{FileId}
 use Rattle.lk_link.specs.declared.link.LinkInput.{LinkInput}
+use Rattle.lk_map.specs.declared.map_text.SectionLine.{SectionLine}
+use Rattle.lk_map.specs.declared.map_text.SegmentLine.{SegmentLine}
+use Rattle.lk_map.specs.Good.{IsGood}
+use Rattle.lk_map.specs.MapText.{map_of}
+use Rattle.lk_reach.specs.declared.units.Unit.TheVariants.{Sec}
 use Rattle.lk_image.specs.Refusals.{image_refusal}
 use Rattle.lk_layout.specs.declared.error.LayoutError.{LayoutError}
 use Rattle.lk_layout.specs.LayoutRecord.{LayoutRecord}
@@ -80,3 +88,33 @@ GeneratedRunsAreComplete =
     (words : List (List ℕ)) (seed size : ℕ) (from to : SourceState) (before after : SinkState) (status : Status)
     → IsCommand words (commands.Gen seed size) → ((e : LayoutError) → IsDefined small64_machine (generated_link seed size) (Err e) → ⊥)
     → IsRun words from to before after status → after.faults ≡ before.faults → (status ≡ Done) ⊎ (status ≡ NoMemory)
+
+-- the bytes describe a link without a fault, and this section is in it
+pub record DescribesSection (bytes : List ℕ) (file : FileId) (index : ℕ) : Type 0 where
+  pub fits : length bytes ≤ LONGEST_INPUT
+  pub link : LinkInput
+  pub described : reading_of bytes ≡ Ok link
+  pub unfaulted : first_fault link ≡ None
+  pub there : has_unit link (Sec file index) ≡ true
+
+-- a run of `why G F I` over such bytes, in which no device failed, told why the section is kept or that it isn't, unless memory ran out
+abbrev pub WhyRunsAreComplete : Type 0
+WhyRunsAreComplete =
+    (words : List (List ℕ)) (file : FileId) (index : ℕ) (bytes : List ℕ) (from to : SourceState) (before after : SinkState) (status : Status)
+    → IsCommand words (commands.Why file index) → from.left ≡ Some bytes → DescribesSection bytes file index
+    → IsRun words from to before after status → IsFaultless from to before after → (status ≡ Done) ⊎ (status ≡ NoMemory)
+
+-- the bytes are a map, and it is good
+pub record AreGoodMap (bytes : List ℕ) : Type 0 where
+  pub fits : length bytes ≤ LONGEST_INPUT
+  pub sections : List SectionLine
+  pub segments : List SegmentLine
+  pub read : map_of bytes ≡ Ok (sections, segments)
+  pub good : IsGood sections segments
+
+-- a run of `check` over such bytes, in which no device failed, found no fault, unless memory ran out
+abbrev pub CheckRunsAreComplete : Type 0
+CheckRunsAreComplete =
+    (words : List (List ℕ)) (bytes : List ℕ) (from to : SourceState) (before after : SinkState) (status : Status)
+    → IsCommand words commands.Check → from.left ≡ Some bytes → AreGoodMap bytes
+    → IsRun words from to before after status → IsFaultless from to before after → (status ≡ Done) ⊎ (status ≡ NoMemory)

@@ -1,13 +1,13 @@
 //! Laws of the definitions, each proved as the contract of a function that does nothing.
 
 ghost use Rattle.lk_run.specs.SoundRun.{RunsAreSound};
-ghost use Rattle.lk_run.specs.Complete.{GeneratedRunsAreComplete, ImageRunsAreComplete, RunsAreComplete, RunsTellOneAnswer, RunsTellTheAnswer};
+ghost use Rattle.lk_run.specs.Complete.{CheckRunsAreComplete, GeneratedRunsAreComplete, ImageRunsAreComplete, RunsAreComplete, RunsTellOneAnswer, RunsTellTheAnswer, WhyRunsAreComplete};
 
 use lk_check::well_formed_exactly_unfaulted;
 use lk_explain::laws::{reached_is_shown, shown_is_one};
 use lk_image::laws::images_are_made;
 use lk_layout::laws::{defined_answer_exists, defined_answer_is_one, small64_machine_is_lawful};
-use lk_map::laws::{maps_are_judged, maps_rise, reads_maps, verdicts_agree};
+use lk_map::laws::{maps_are_judged, maps_rise, reads_maps, verdicts_agree, verdicts_tell_good};
 use lk_reach::laws::marks_are_reached;
 use lk_soundness::laws::defined_layouts_are_sound;
 
@@ -53,6 +53,19 @@ pub fn image_runs_are_complete()
 pub fn generated_runs_are_complete()
     ensures { GeneratedRunsAreComplete }
 {}
+
+/// A law: of a section in a description without a fault each run of `why`, in which no device failed, tells why it is kept or that it
+/// isn't, unless memory ran out.
+pub fn why_runs_are_complete()
+    ensures { WhyRunsAreComplete }
+{}
+
+/// A law: in a good map each run of `check`, in which no device failed, finds no fault, unless memory ran out.
+pub fn check_runs_are_complete()
+    ensures { CheckRunsAreComplete }
+{
+    verdicts_tell_good();
+}
 
 /// A law: a run that ends with the status of a layout has told a sound one, one of `check` that ends so has read a good map, and one of
 /// `image N` has written the bytes of all that stands in the file of a sound layout, and zeros; whoever made it: `run`, `run_alone` or the
