@@ -10,7 +10,6 @@ mod FirstScan
 mod Emptied
 mod Keeping
 mod StillParts
-mod Stopping
 mod PastSites
 mod FirstPlaced
 pub mod Deleting

@@ -8,5 +8,4 @@ pub mod Scan
 pub mod ScanWords
 pub mod Sites
 pub mod Stages
-pub mod Stopping
 pub mod Texts

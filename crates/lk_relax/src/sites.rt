@@ -14,7 +14,7 @@ ghost use Rattle.lk_deltas.specs.LinkDeletions.{deleted_of};
 ghost use Rattle.lk_relax.specs.Scan.{CanBeScanned};
 ghost use Rattle.lk_relax.specs.ScanWords.{standing_of};
 ghost use Rattle.lk_relax.specs.Sites.{CanAllBeScanned, file_past, is_nothing_deleted, past_limit, section_past};
-ghost use Rattle.lk_relax.specs.Stopping.{StopsAtFirst};
+ghost use Rattle.lk_stops.specs.Stops.{StopsAtFirst};
 
 use crate::scan::{Before, judge_of, relax_of};
 use lk_deltas::{RelaxDeltaMap, SectionRelaxDeltas, first_past, laws, map_of};

@@ -6,7 +6,7 @@ use Rattle.lk_reach.proofs.SymbolNumbers.{sections_few}
 use Rattle.lk_relax.specs.declared.sites.RelaxedPlace.{RelaxedPlace}
 use Rattle.lk_relax.specs.ScanWords.{standing_of}
 use Rattle.lk_relax.specs.Sites.{section_past}
-use Rattle.lk_relax.proofs.Stopping.{all_gone, exit, one_more, stops_at}
+use Rattle.lk_stops.proofs.Stopping.{all_gone, exit, one_more, stops_at}
 use Rattle.lk_relax.proofs.sites.check_sections.Goals as goal
 
 pub overflow_cast-index : goal.overflow_cast-index
