@@ -321,7 +321,7 @@ section_done : (link : LinkInput) (file : FileId) (index : ℕ) (answer : Answer
     → IsSectionAnswer link file index answer → answer.status ≡ Done
 section_done link file index answer there is =
     let told : IsWayAnswer link file index answer =
-        subst (λ b. MatchBool b (IsWayAnswer link file index answer) (answer ≡ refused (no_section_text file index))) there is in
+    subst (λ b. MatchBool b (IsWayAnswer link file index answer) (answer ≡ refused (no_section_text file index))) there is in
     ap (λ (a : Answer). a.status) told.2
 
 why_done : (bytes : List ℕ) (file : FileId) (index : ℕ) (held : Held) (answer : Answer) → DescribesSection bytes file index → Holds (Some bytes) held
