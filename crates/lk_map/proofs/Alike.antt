@@ -36,7 +36,7 @@ module _ (n : ℕ) (form : Form) (text rest : List ℕ) (sections : List Section
       let (values, (line, parts, clear, says), of_section, of_segment, can) = tells in
       let at : parts_of text ≡ line ∷ parts_of rest = ap parts_of parts ∙ slice_split_at (is_byte 10) line 10 rest clear refl in
       let here : told_by ss gs n (lines_from n (Some form) (line ∷ parts_of rest)) ≡ whole =
-          ap (λ b. told_by ss gs n (lines_from n b (line ∷ parts_of rest))) (sym is) ∙ ap (λ ps. told_by ss gs n (lines_from n before ps)) (sym at) ∙ so in
+      ap (λ b. told_by ss gs n (lines_from n b (line ∷ parts_of rest))) (sym is) ∙ ap (λ ps. told_by ss gs n (lines_from n before ps)) (sym at) ∙ so in
       ap (λ b. told_by (ss ++ sections) (gs ++ segments) (n + 1) (lines_from (n + 1) b (parts_of rest))) is
       ∙ ap (λ xs. told_by (ss ++ xs) (gs ++ segments) (n + 1) (lines_from (n + 1) (Some form) (parts_of rest))) (sym of_section)
       ∙ ap (λ xs. told_by (ss ++ section_told n form values) (gs ++ xs) (n + 1) (lines_from (n + 1) (Some form) (parts_of rest))) (sym of_segment)
