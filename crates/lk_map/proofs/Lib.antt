@@ -1,4 +1,5 @@
 pub mod Ahead
+pub mod Alike
 pub mod Among
 pub mod Cuts
 pub mod Digits

@@ -118,9 +118,15 @@ free byte low (x ∷ xs) h =
     let (first, rest) = and_parts (nat_lt 32 x) (is_high xs) h in
     All-cons (λ x. is_byte byte x ≡ false) x xs (other_byte byte x low first) (free byte low xs rest)
 
--- a form's word has no blank
-pub word_free : (w : Word) → All (λ x. is_byte 32 x ≡ false) (word_text w)
-word_free w = free 32 (omega arith) (word_text w) (word_high w)
+above : (xs : List ℕ) → is_high xs ≡ true → All (λ x. 32 < x) xs
+above [] h = All-nil (λ x. 32 < x)
+above (x ∷ xs) h =
+    let (first, rest) = and_parts (nat_lt 32 x) (is_high xs) h in
+    All-cons (λ x. 32 < x) x xs (grind (arith, nat_tests)) (above xs rest)
+
+-- a form's word has no blank and no line feed
+pub word_above : (w : Word) → All (λ x. 32 < x) (word_text w)
+word_above w = above (word_text w) (word_high w)
 
 line_free : (ws : List (List ℕ)) → list_all is_high ws ≡ true → All (λ x. is_byte 10 x ≡ false) (join_with_byte 32 ws)
 line_free [] h = All-nil (λ x. is_byte 10 x ≡ false)

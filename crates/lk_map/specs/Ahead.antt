@@ -1,8 +1,34 @@
--- Private: a text's first word, read where it stands.
-use Rattle.std.specs.Prelude.{◌≡◌, ℕ, List, ◌∷◌, Option}
-use Rattle.std.specs.List.{slice_split}
-use Rattle.lk_map.specs.Cutting.{is_byte, parts_left}
+-- Private: a text's first words and its first line, read where they stand.
+use Rattle.std.specs.Prelude.{◌≡◌, ℕ, ◌<◌, true, false, List, ◌∷◌, ◌++◌, Option, Some}
+use Rattle.std.specs.List.{All}
+use Rattle.lk_map.specs.declared.forms.Field.{Field}
+use Rattle.lk_map.specs.declared.forms.Form.{Form}
+use Rattle.lk_map.specs.declared.map_text.SectionLine.{SectionLine}
+use Rattle.lk_map.specs.declared.map_text.SegmentLine.{SegmentLine}
+use Rattle.lk_map.specs.Cutting.{is_byte}
+use Rattle.lk_map.specs.Forms.{fields_of, follows}
+use Rattle.lk_map.specs.Lines.{values_of, words_of}
+use Rattle.lk_map.specs.MapText.{section_told, segment_told}
 
--- the first word of a text says this, and behind its blank this is left: none where there is no blank
-abbrev pub Begins : List ℕ → Option (List ℕ) → (List ℕ → Type 0) → Type 0
-Begins text rest says = (word : List ℕ) × (slice_split (is_byte 32) text ≡ word ∷ parts_left 32 rest) × says word
+-- a text begins with a word that says this, and behind it stand this byte and the rest; no blank or line feed is in the word
+abbrev pub Begins : ℕ → List ℕ → List ℕ → (List ℕ → Type 0) → Type 0
+Begins stop text rest says = (word : List ℕ) × (text ≡ word ++ stop ∷ rest) × All (λ x. 32 < x) word × says word
+
+-- a text's first line has these values in these fields, and behind its line feed stands the rest
+abbrev pub Says : List Field → List ℕ → List (Option ℕ) → List ℕ → Type 0
+Says fields text values rest =
+    (line : List ℕ) × (text ≡ line ++ 10 ∷ rest) × All (λ x. is_byte 10 x ≡ false) line × (values_of fields (words_of line) ≡ Some values)
+
+-- a line that begins with a text has these values in its first fields, and its other fields are read in the rest
+abbrev pub Opens : List Field → List ℕ → List (Option ℕ) → List ℕ → Type 0
+Opens fields text values rest =
+    (more : List Field) (others : List (Option ℕ)) (end : List ℕ) → Says more rest others end → Says (fields ++ more) text (values ++ others) end
+
+-- a text's first line has some values in these fields
+abbrev pub SaysSome : List Field → List ℕ → List ℕ → Type 0
+SaysSome fields text rest = (values : List (Option ℕ)) × Says fields text values rest
+
+-- what is told of line n of a text, which has this form: its section or its segment, if it is one's. Another of the form can stand behind it
+abbrev pub Tells : ℕ → Form → List ℕ → List ℕ → List SectionLine → List SegmentLine → Type 0
+Tells n form text rest sections segments =
+    (values : List (Option ℕ)) × Says (fields_of form) text values rest × (section_told n form values ≡ sections) × (segment_told n form values ≡ segments) × (follows (Some form) form ≡ true)

@@ -1,4 +1,5 @@
 pub mod Ahead
+pub mod Alike
 pub mod Checking
 pub mod Cutting
 pub mod Digits

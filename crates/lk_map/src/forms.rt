@@ -4,7 +4,7 @@ ghost use Rattle.std.specs.Prelude.{◌≡◌, ℕ, ◌≤◌, List, length};
 ghost use Rattle.lk_map.specs.Forms.{fields_of, forms, rank, word_text};
 
 /// A word that stands in a line as it is.
-#[derive(Clone, Copy, Debug, PartialEq, Eq)]
+#[derive(Clone, Copy)]
 pub enum Word {
     Layout,
     Section,
@@ -35,7 +35,7 @@ pub enum Word {
 }
 
 /// What stands between two blanks of a line.
-#[derive(Clone, Copy, Debug, PartialEq, Eq)]
+#[derive(Clone, Copy)]
 pub enum Field {
     /// This word.
     Word(Word),
@@ -50,7 +50,7 @@ pub enum Field {
 }
 
 /// A form that a line can have. The entry's line has three.
-#[derive(Clone, Copy, Debug, PartialEq, Eq)]
+#[derive(Clone, Copy)]
 pub enum Form {
     Layout,
     Section,
@@ -106,8 +106,8 @@ pub const ENTRY_RANK: u8 = 11;
 /// That of the last line.
 pub const END_RANK: u8 = 12;
 
-/// A word as it is written. Kept apart, where it is a look into a table: within its caller each word would be a branch of its own.
-#[inline(never)]
+/// A word as it is written. Always inlined, so that a word that is known is a constant.
+#[inline(always)]
 #[tactic(auto, unfolding(crate::specs::Forms::word_text))]
 pub fn text_of(word: Word) -> &'static str
     ensures { result.now ≡ word_text word }

@@ -11,6 +11,7 @@ mod lines;
 mod map_text;
 mod numbers;
 mod spans;
+mod straight;
 mod sweep;
 
 pub use crate::check::{MapFault, check_map};

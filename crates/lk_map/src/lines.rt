@@ -1,15 +1,16 @@
 //! What a map's line says.
 
-ghost use Rattle.std.specs.Prelude.{◌≡◌, ℕ, ◌≤◌, ◌<◌, ◌+◌, ◌∷◌, ◌++◌, [], Some, None, IfSome, codes, length, option_copied, option_map};
-ghost use Rattle.lk_map.specs.Ahead.{Begins};
-ghost use Rattle.lk_map.specs.Forms.{forms, word_text};
+ghost use Rattle.std.specs.Prelude.{◌≡◌, ℕ, ◌≤◌, ◌<◌, ◌+◌, List, ◌∷◌, ◌++◌, [], Some, None, length, option_copied, option_map};
+ghost use Rattle.std.specs.List.{slice_split};
+ghost use Rattle.lk_map.specs.Cutting.{is_byte, parts_left};
+ghost use Rattle.lk_map.specs.Forms.{forms};
 ghost use Rattle.lk_map.specs.Lines.{behind, line_among, line_of, value_of, values_of, words_of};
 ghost use Rattle.lk_map.specs.MapText.{number_at};
 ghost use Rattle.lk_map.specs.Values.{line_if, shown, values_if};
 
 use crate::cut::cut_word;
-use crate::forms::{FORMS, Field, Form, MOST_FIELDS, Word, fields, text_of};
-use crate::numbers::{address_ahead, decimal_ahead, read_address, read_number};
+use crate::forms::{FORMS, Field, Form, MOST_FIELDS, fields, text_of};
+use crate::numbers::{read_address, read_number};
 
 /// The values of a line: none where `-` stands.
 #[derive(Clone, Copy)]
@@ -98,65 +99,14 @@ impl Values {
         }
     }
 
-    /// Adds what a text's first word says in a field. Says whether it fits, and what stands behind the word's blank. Kept apart, since
-    /// few words come here.
-    #[cold]
-    #[inline(never)]
-    fn take_cut<'a>(&mut self, field: Field, text: &'a [u8]) -> (bool, Option<&'a [u8]>)
+    /// Adds what a text's first word says in a field. Says whether it fits, and what stands behind the word's blank.
+    fn take_first<'a>(&mut self, field: Field, text: &'a [u8]) -> (bool, Option<&'a [u8]>)
         requires { self.old.count < 16 }
-        ensures values { Begins text.now (option_copied result.1) (λ word. values_if result.0 (shown self.new) ≡ behind (shown self.old) (value_of field word)) }
+        ensures values { (word : List ℕ) × (slice_split (is_byte 32) text.now ≡ word ∷ parts_left 32 (option_copied result.1)) × (values_if result.0 (shown self.new) ≡ behind (shown self.old) (value_of field word)) }
         ensures count { self.new.count ≤ self.old.count + 1 }
     {
         let (word, behind) = cut_word(text);
         (self.take(field, word), behind)
-    }
-
-    /// The same. Where `-` may stand it is mostly there, and no word is cut off.
-    #[inline(always)]
-    fn take_other<'a>(&mut self, field: Field, text: &'a [u8]) -> (bool, Option<&'a [u8]>)
-        requires { self.old.count < 16 }
-        ensures values { Begins text.now (option_copied result.1) (λ word. values_if result.0 (shown self.new) ≡ behind (shown self.old) (value_of field word)) }
-        ensures count { self.new.count ≤ self.old.count + 1 }
-    {
-        match field {
-            Field::NumberOrNone | Field::AddressOrNone => {
-                if let Some(rest) = dash_ahead(text) {
-                    self.push(None);
-                    return (true, rest);
-                }
-            }
-            _ => {}
-        }
-        self.take_cut(field, text)
-    }
-
-    /// The same. What fits is mostly read where it stands, with no word cut off first.
-    #[inline(always)]
-    fn take_first<'a>(&mut self, field: Field, text: &'a [u8]) -> (bool, Option<&'a [u8]>)
-        requires { self.old.count < 16 }
-        ensures values { Begins text.now (option_copied result.1) (λ word. values_if result.0 (shown self.new) ≡ behind (shown self.old) (value_of field word)) }
-        ensures count { self.new.count ≤ self.old.count + 1 }
-    {
-        match field {
-            Field::Word(expected) => {
-                if let Some(rest) = word_ahead(expected, text) {
-                    return (true, rest);
-                }
-            }
-            Field::Number | Field::NumberOrNone => {
-                if let Some((number, rest)) = decimal_ahead(text) {
-                    self.push(Some(number));
-                    return (true, rest);
-                }
-            }
-            Field::Address | Field::AddressOrNone => {
-                if let Some((number, rest)) = address_ahead(text) {
-                    self.push(Some(number));
-                    return (true, rest);
-                }
-            }
-        }
-        self.take_other(field, text)
     }
 
     /// Takes the values of a line in so many fields in place of those that are there. Says whether they fit.
@@ -180,44 +130,8 @@ impl Values {
     }
 }
 
-/// What stands behind a text's first word and its blank, if that is this word.
-#[inline(always)]
-fn word_ahead(expected: Word, text: &[u8]) -> Option<Option<&[u8]>>
-    ensures { IfSome result (λ rest. Begins text.now (option_copied rest) (λ word. word ≡ word_text expected)) }
-{
-    let word = text_of(expected).as_bytes();
-    let end = word.len();
-    if text.len() < end || &text[..end] != word {
-        return None;
-    }
-    if end == text.len() {
-        return Some(None);
-    }
-    if text[end] != b' ' {
-        return None;
-    }
-    Some(Some(&text[end + 1..]))
-}
-
-/// What stands behind a text's first word and its blank, if that is `-`.
-#[inline(always)]
-fn dash_ahead(text: &[u8]) -> Option<Option<&[u8]>>
-    ensures { IfSome result (λ rest. Begins text.now (option_copied rest) (λ word. word ≡ codes "-")) }
-{
-    if text.is_empty() || text[0] != b'-' {
-        return None;
-    }
-    if text.len() == 1 {
-        return Some(None);
-    }
-    if text[1] != b' ' {
-        return None;
-    }
-    Some(Some(&text[2..]))
-}
-
 /// The first form that a line has, and its values in place of those that are there.
-fn read_any(values: &mut Values, line: &[u8]) -> Option<Form>
+pub fn read_line(values: &mut Values, line: &[u8]) -> Option<Form>
     ensures { line_if result (shown values.new) ≡ line_of line.now }
 {
     for form in FORMS {
@@ -226,15 +140,4 @@ fn read_any(values: &mut Values, line: &[u8]) -> Option<Form>
         }
     }
     None
-}
-
-/// The same. A form that is likely is tried first, since most lines have that of the line before them; no line has two.
-pub fn read_line(values: &mut Values, line: &[u8], likely: Form) -> Option<Form>
-    ensures { line_if result (shown values.new) ≡ line_of line.now }
-{
-    let is_likely = values.take_all(fields(likely), line);
-    if is_likely {
-        return Some(likely);
-    }
-    read_any(values, line)
 }

@@ -1,6 +1,7 @@
 //! The text of a map, read line by line.
 
 ghost use Rattle.std.specs.Prelude.{◌≡◌, ℕ, ◌+◌, ◌++◌, IfOk};
+ghost use Rattle.lk_map.specs.Alike.{kept_sections, kept_segments};
 ghost use Rattle.lk_map.specs.Forms.{follows, is_end};
 ghost use Rattle.lk_map.specs.MapText.{map_of, section_at, section_told, segment_at, segment_told, Gives, LinesRise};
 ghost use Rattle.lk_map.specs.Values.{shown};
@@ -8,6 +9,7 @@ ghost use Rattle.lk_map.specs.Values.{shown};
 use crate::cut::cut_line;
 use crate::forms::{END_RANK, ENTRY_RANK, Form, LAYOUT_RANK, SECTION_RANK, SEGMENT_RANK, rank_of};
 use crate::lines::{Values, read_line};
+use crate::straight::{Kept, line_alike};
 use std::alloc::{AllocError, Global};
 
 /// The line of an output section.
@@ -111,6 +113,20 @@ impl MapText {
         }
         Ok(())
     }
+
+    /// Keeps what is kept of a line.
+    #[inline(always)]
+    fn keep_alike(&mut self, kept: &Kept) -> Result<(), AllocError>
+        ensures sections { IfOk result (λ _. self.new.sections.items ≡ self.old.sections.items ++ kept_sections kept.now) }
+        ensures segments { IfOk result (λ _. self.new.segments.items ≡ self.old.segments.items ++ kept_segments kept.now) }
+    {
+        match *kept {
+            Kept::Section(section) => self.sections.push(section)?,
+            Kept::Segment(segment) => self.segments.push(segment)?,
+            Kept::Nothing => {}
+        }
+        Ok(())
+    }
 }
 
 /// Whether a line of this form can stand behind one of the other form, or be the first.
@@ -160,6 +176,13 @@ pub fn read_map(alloc: Global, text: &[u8]) -> Result<MapText, MapError>
     let mut line = 1;
     let mut rest = text;
     'lines: loop {
+        // Most lines have the form of the line before them.
+        if let Some((kept, after)) = line_alike(line, before, rest) {
+            map.keep_alike(&kept)?;
+            line += 1;
+            rest = after;
+            continue 'lines;
+        }
         let (here, behind) = cut_line(rest);
         let Some(behind) = behind else {
             if here.is_empty() && is_last(before) {
@@ -167,8 +190,7 @@ pub fn read_map(alloc: Global, text: &[u8]) -> Result<MapText, MapError>
             }
             return Err(MapError::NotMap { line });
         };
-        let likely = before.unwrap_or(Form::Layout);
-        let Some(form) = read_line(&mut values, here, likely) else {
+        let Some(form) = read_line(&mut values, here) else {
             return Err(MapError::NotMap { line });
         };
         if !goes_on(before, form) {

@@ -1,6 +1,6 @@
 //! Numbers as a map writes them.
 
-ghost use Rattle.std.specs.Prelude.{◌≡◌, ℕ, ◌≤◌, ◌<◌, ◌^◌, ◌+◌, ◌*◌, nat_lt, Some, None, IfSome, MatchOption, if◌then◌else◌, length, option_copied, take};
+ghost use Rattle.std.specs.Prelude.{◌≡◌, ℕ, ◌≤◌, ◌<◌, ◌^◌, ◌+◌, ◌*◌, nat_lt, Some, None, IfSome, MatchOption, if◌then◌else◌, length, take};
 ghost use Rattle.std.specs.Str.Parse.{digits_value};
 ghost use Rattle.std.specs.Char.{digit_value};
 ghost use Rattle.lk_map.specs.Ahead.{Begins};
@@ -140,46 +140,43 @@ fn first_digits(base: u64, most: usize, text: &[u8]) -> (u64, usize)
     (value, end)
 }
 
-/// The number that a text's first word writes in a base, if it has no more than so many digits, and what stands behind that word's blank.
-/// Each byte is looked at once, and no sum is tested, so this is faster than to cut the word off and read it.
+/// The number that a text's first word writes in a base, if it has no more than so many digits and a given byte ends it, and what stands
+/// behind that byte. Each byte is looked at once, and no sum is tested, so this is faster than to cut the word off and read it.
 #[inline(always)]
-fn number_ahead(base: u64, most: usize, text: &[u8]) -> Option<(u64, Option<&[u8]>)>
+fn number_ahead(base: u64, most: usize, stop: u8, text: &[u8]) -> Option<(u64, &[u8])>
     requires low { 2 ≤ base }
     requires high { base ≤ 16 }
     requires fits { base ^ most ≤ 2 ^ 64 }
-    ensures { IfSome result (λ found. Begins text.now (option_copied found.1) (λ word. number_in base word ≡ Some found.0)) }
+    ensures { IfSome result (λ found. Begins stop text.now found.1.now (λ word. number_in base word ≡ Some found.0)) }
 {
     let (number, count) = first_digits(base, most, text);
-    if count == 0 {
+    if count == 0 || count == text.len() {
         return None;
     }
     if count > 1 && text[0] == b'0' {
         return None;
     }
-    if count == text.len() {
-        return Some((number, None));
-    }
-    if text[count] != b' ' {
+    if text[count] != stop {
         return None;
     }
-    Some((number, Some(&text[count + 1..])))
+    Some((number, &text[count + 1..]))
 }
 
 /// The same in decimal. One of 20 digits is left to be cut off.
 #[inline(always)]
-pub fn decimal_ahead(text: &[u8]) -> Option<(u64, Option<&[u8]>)>
-    ensures { IfSome result (λ found. Begins text.now (option_copied found.1) (λ word. number_in 10 word ≡ Some found.0)) }
+pub fn decimal_ahead(stop: u8, text: &[u8]) -> Option<(u64, &[u8])>
+    ensures { IfSome result (λ found. Begins stop text.now found.1.now (λ word. number_in 10 word ≡ Some found.0)) }
 {
-    number_ahead(10, 19, text)
+    number_ahead(10, 19, stop, text)
 }
 
 /// The same of an address.
 #[inline(always)]
-pub fn address_ahead(text: &[u8]) -> Option<(u64, Option<&[u8]>)>
-    ensures { IfSome result (λ found. Begins text.now (option_copied found.1) (λ word. address_in word ≡ Some found.0)) }
+pub fn address_ahead(stop: u8, text: &[u8]) -> Option<(u64, &[u8])>
+    ensures { IfSome result (λ found. Begins stop text.now found.1.now (λ word. address_in word ≡ Some found.0)) }
 {
     if text.len() >= 2 && text[0] == b'0' && text[1] == b'x' {
-        number_ahead(16, 16, &text[2..])
+        number_ahead(16, 16, stop, &text[2..])
     } else {
         None
     }

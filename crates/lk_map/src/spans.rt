@@ -19,7 +19,7 @@ const THREAD_LOCAL: u64 = 8;
 const ZERO_FILLED: u64 = 16;
 
 /// A range, in memory or in the file, in the order of starts and then of lines.
-#[derive(Clone, Copy, Debug, PartialEq, Eq, PartialOrd, Ord)]
+#[derive(Clone, Copy, PartialEq, Eq, PartialOrd, Ord)]
 pub struct Span {
     /// Where it starts.
     pub start: u64,

@@ -19,7 +19,7 @@ use std::alloc::{AllocError, Global};
 use std::collections::BinaryHeap;
 
 /// A section that has to stand in a segment, in the order in which they are gone through.
-#[derive(Clone, Copy, Debug, PartialEq, Eq, PartialOrd, Ord)]
+#[derive(Clone, Copy, PartialEq, Eq, PartialOrd, Ord)]
 pub struct Need {
     /// How far memory lies behind the file, and 2^64 more.
     pub distance: u128,
@@ -34,7 +34,7 @@ pub struct Need {
 }
 
 /// A segment, in the order in which they are gone through.
-#[derive(Clone, Copy, Debug, PartialEq, Eq, PartialOrd, Ord)]
+#[derive(Clone, Copy, PartialEq, Eq, PartialOrd, Ord)]
 pub struct Offer {
     /// How far memory lies behind the file, and 2^64 more.
     pub distance: u128,
@@ -47,7 +47,7 @@ pub struct Offer {
 }
 
 /// A segment that was come to. The best is the greatest: of the last distance the one that ends last in memory.
-#[derive(Clone, Copy, Debug, PartialEq, Eq, PartialOrd, Ord)]
+#[derive(Clone, Copy, PartialEq, Eq, PartialOrd, Ord)]
 pub struct Open {
     pub distance: u128,
     pub mem_end: u64,

@@ -103,6 +103,57 @@ const NUMBERS: &str = "
 1=%ef%bb%bflayout => not 1
 ";
 
+/// Lines behind one of their form: these are read where they stand, or are cut off where they don't fit.
+const ALIKE: &str = "
+12=single 1 0 3 4|single 1 1 3 4|merged 0 5 2 3 7 0x1000|merged 0 6 2 3 7 0x0|piece 0 0x1000 4|piece 1 0x1004 4|block 0 1 0|block 1 1 1|entry - => ok 3 1
+12=thunk 0 5 0x40|thunk 1 5 -|thunk 2 5 0x48|symbol 0 0x10 5 got 0x8 plt 0x9 dyn 7|symbol 1 0x10 5 got - plt - dyn -|symbol 2 0x0 0 got - plt 0x8 dyn 8|entry - => ok 3 1
+12=segment 1 mem 0x0 0 file 0x0 0 align 1|entry - => not 12
+7=|segment 1 mem 0x0 0 file 0x0 0 align 1|segment 2 mem 0x0 0 file 0x0 0 align 1 => not 7
+7=segment 1 mem 0x0 0 file 0x0 0 align 1|segment 2 mem 0x0 0 file 0x0 0 align 1 => ok 3 3
+3=section 1 index - mem 0x1008 7 file 0x8 7 align 1 lma 0x1008 attrs 1 => ok 3 1
+3=section - index 1 mem 0x1008 7 file 0x8 7 align 1 lma 0x1008 attrs 1 => not 3
+3=section 1 index 1 mem 0x1008 7 file 0x8 7 align 1 lma 0x1008 attrs - => not 3
+3=section 1 index 1 mem 0x1008 7 file 0x8 7 align 1 lma 0x1008 attrs 1 1 => not 3
+3=section 1 index 1 mem 0x1008 7 file 0x8 7 align 1 lma 0x1008 attrs => not 3
+3=section 1 index 1 mem 0x1008 7 file 0x8 7 lma 0x1008 align 1 attrs 1 => not 3
+3=section 1 index 1 mem 0x1008 7 file 0x8 7 align 1 lma 1008 attrs 1 => not 3
+3=segment 1 mem 0x1008 7 file 0x8 7 align 1 => not 4
+6=part 1 mem 0x1008 7 file 0x8 7 align - => not 6
+6=part 1 mem 0x1008 7 file 0x8 7 => not 6
+10=live 18446744073709551615 0 0 0xffffffffffffffff 9999999999999999999 => ok 3 1
+10=live 18446744073709551616 0 0 0x1000 8 => not 10
+10=live 1 0 0 0x10000000000000000 8 => not 10
+10=live 01 0 0 0x1000 8 => not 10
+10=live 1 0 00 0x1000 8 => not 10
+10=live 1 0 0 0x01000 8 => not 10
+10=live 1 0 0 0x 8 => not 10
+10=live 1 0 0 1000 8 => not 10
+10=live 1 0 0 0x100A 8 => not 10
+10=live 1 0 0 0x100g 8 => not 10
+10=live 1 0 0 0x1000 - => not 10
+10=live 1 0 0 0x1000 => not 10
+10=live 1 0 0 0x1000 8 8 => not 10
+10=live 1 0 0 0x1000 8%20 => not 10
+10=live 1 0 0 0x1000 8%0d => not 10
+10=live 1 0 0 0x1000 8%00 => not 10
+10=live  1 0 0 0x1000 8 => not 10
+10=%20live 1 0 0 0x1000 8 => not 10
+10=live%091 0 0 0x1000 8 => not 10
+10=lives 1 0 0 0x1000 8 => not 10
+10=liv 1 0 0 0x1000 8 => not 10
+10=live => not 10
+10=%20 => not 10
+10=live 1 0 1 0x1008 7~ => not 10
+11=live 1 0 2 0x1010 16~;12=;13= => not 11
+11=live 1 0 2 0x1010 16;12=;13= => not 12
+12=thunk 0 5 0x40|thunk 0 5 40|entry - => not 13
+12=symbol 0 0x10 5 got - plt - dyn -|symbol 0 0x10 5 got - plt - dyn 0x7|entry - => not 13
+12=symbol 0 0x10 5 got - plt - dyn -|symbol 0 - 5 got - plt - dyn 7|entry - => not 13
+12=symbol 0 0x10 5 got - plt - dyn -|symbol 0 0x10 5 got -- plt - dyn 7|entry - => not 13
+12=merged 0 5 2 3 7 0x1000|merged 0 5 2 3 7 -|entry - => not 13
+12=entry 0x1000|end => not 14
+";
+
 #[test]
 fn kinds_stand_in_their_order(rt: HostRuntime) -> Result<(), Fail> {
     expect_rows(&rt, rt.alloc(), KINDS)
@@ -116,4 +167,9 @@ fn lines_have_their_fields(rt: HostRuntime) -> Result<(), Fail> {
 #[test]
 fn numbers_are_as_they_are_written(rt: HostRuntime) -> Result<(), Fail> {
     expect_rows(&rt, rt.alloc(), NUMBERS)
+}
+
+#[test]
+fn lines_alike_are_read_where_they_stand(rt: HostRuntime) -> Result<(), Fail> {
+    expect_rows(&rt, rt.alloc(), ALIKE)
 }

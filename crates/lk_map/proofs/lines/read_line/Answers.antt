@@ -1,8 +1,18 @@
+use Rattle.lk_map.specs.Forms.{forms}
 use Rattle.lk_map.specs.Lines.{words_of}
 use Rattle.lk_map.specs.Values.{shown}
-use Rattle.lk_map.proofs.Spelled.{form_first}
+use Rattle.lk_map.proofs.Among.{form_fits, form_none, form_not}
 use Rattle.lk_map.proofs.lines.read_line.Goals as goal
 
-pub returns-then-is_likely : goal.returns-then-is_likely
-returns-then-is_likely c =
-    form_first c.args.likely c.fields.result.now (words_of c.args.line.now) (shown c.take_all-is_likely.new.self) c.fields.ensures.fields (rw c.if-is_likely.true at c.take_all-is_likely.ensures)
+pub returns-then-take_all : goal.returns-then-take_all
+returns-then-take_all c =
+    form_fits forms c.loop-form.form-index c.loop-form-test.true (words_of c.args.line.now) _ c.loop-form.invariant
+    c.fields.result.now (shown c.take_all.new.self) c.fields.ensures.fields (rw c.if-take_all.true at c.take_all.ensures)
+
+pub loop-form-preserved : goal.loop-form-preserved
+loop-form-preserved c =
+    form_not forms c.loop-form.form-index c.loop-form-test.true (words_of c.args.line.now) _ c.loop-form.invariant
+    c.fields.result.now c.fields.ensures.fields (rw c.if-take_all.false at c.take_all.ensures)
+
+pub returns : goal.returns
+returns c = form_none forms c.loop-form.form-index (words_of c.args.line.now) _ c.loop-form-test.false c.loop-form.invariant
