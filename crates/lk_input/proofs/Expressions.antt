@@ -13,7 +13,7 @@ use Rattle.lk_input.specs.declared.read.expression.ExpressionForm.{ExpressionFor
 use Rattle.lk_input.specs.declared.read.expression.OperandForm.{OperandForm}
 use Rattle.lk_input.specs.declared.read.expression.ExpressionForm.TheVariants.{Operand, Operator}
 use Rattle.lk_input.specs.ReadingSteps.{Path, ◌>>=◌, below, wanted, element, fixed_list, at_most, one_of}
-use Rattle.lk_input.specs.ReadingExpressions.{expression_of, expressions_of, side_at, expression_from, operand_of, form_text, all_forms}
+use Rattle.lk_input.specs.ReadingExpressions.{expression_of, expressions_of, side_at, expression_from, operand_of, forms}
 
 -- ---- how deep
 
@@ -67,23 +67,23 @@ form_then (Ok f) ds = from_items f ds
 form_then (Err path) ds = refl
 
 -- an expression, step by step
-pub expression_of-steps : (d : Data) → expression_of d ≡ (fixed_list d >>= λ _. element (one_of form_text all_forms) 0 d >>= λ f. expression_by f d)
+pub expression_of-steps : (d : Data) → expression_of d ≡ (fixed_list d >>= λ _. element (one_of forms) 0 d >>= λ f. expression_by f d)
 unfolding expression_of
 expression_of-steps null = refl
 expression_of-steps (boolean b) = refl
 expression_of-steps (number n) = refl
 expression_of-steps (string s) = refl
-expression_of-steps (array ds) = form_then (element (one_of form_text all_forms) 0 (array ds)) ds
+expression_of-steps (array ds) = form_then (element (one_of forms) 0 (array ds)) ds
 expression_of-steps (object ms) = refl
 
 pub ruleset steps = (expression_of-steps)
 
 -- an operand, which was read
-pub expression_of-operand : (d : Data) (f : OperandForm) (x : Taken) → fixed_list d ≡ Ok tt → element (one_of form_text all_forms) 0 d ≡ Ok (Operand f) → operand_of f d ≡ Ok x → expression_of d ≡ Ok (Leaf x)
+pub expression_of-operand : (d : Data) (f : OperandForm) (x : Taken) → fixed_list d ≡ Ok tt → element (one_of forms) 0 d ≡ Ok (Operand f) → operand_of f d ≡ Ok x → expression_of d ≡ Ok (Leaf x)
 expression_of-operand d f x is_list form read = expression_of-steps d ∙ rw (is_list, form, read)
 
 -- one of two others, which were read
-pub expression_of-operation : (d : Data) (o : Operation) (l r : Term) → fixed_list d ≡ Ok tt → element (one_of form_text all_forms) 0 d ≡ Ok (Operator o) → element expression_of 1 d ≡ Ok l → element expression_of 2 d ≡ Ok r → at_most 3 d ≡ Ok tt → expression_of d ≡ Ok (Node o l r)
+pub expression_of-operation : (d : Data) (o : Operation) (l r : Term) → fixed_list d ≡ Ok tt → element (one_of forms) 0 d ≡ Ok (Operator o) → element expression_of 1 d ≡ Ok l → element expression_of 2 d ≡ Ok r → at_most 3 d ≡ Ok tt → expression_of d ≡ Ok (Node o l r)
 expression_of-operation d o l r is_list form left right all = expression_of-steps d ∙ rw (is_list, form, left, right, all)
 
 -- behind what was there: the left tokens, the right ones, their operator

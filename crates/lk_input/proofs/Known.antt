@@ -14,12 +14,13 @@ use Rattle.lk_input.specs.declared.read.symbol.SymbolMembers.{SymbolMembers}
 use Rattle.lk_input.specs.Known.{Keeps, kept_needed, kept_optional, symbol_from, symbol_kept}
 use Rattle.lk_input.specs.Large.{Rereads, kept_or}
 use Rattle.lk_input.specs.ReadingSteps.{Path, ◌>>=◌, below, found_by, found_or, index_of, present, text_of, truth_of}
-use Rattle.lk_input.specs.ReadingSymbols.{input_symbol_of, symbol_key_text, symbol_placement_of}
+use Rattle.lk_input.specs.ReadingSymbols.{input_symbol_of, symbol_placement_of}
 use Rattle.lk_pieces.specs.Tokens.{data_at}
 use Rattle.lk_input.specs.Tokens.{Stands, anything}
 use Rattle.lk_input.proofs.Lists.{made, made-none}
 use Rattle.lk_input.proofs.Objects.{WantsObject, differ}
 use Rattle.lk_input.proofs.Values.{lacks-so}
+use Rattle.lk_input.specs.Keys.{symbol_key_text}
 
 -- ---- a member that is put
 

@@ -8,17 +8,18 @@ use Rattle.lk_link.specs.declared.file.FileKind.TheVariants as kind
 use Rattle.lk_input.specs.declared.read.file.FileKey.TheVariants as key
 use Rattle.lk_input.specs.declared.read.file.FileMembers.{FileMembers}
 use Rattle.lk_input.specs.KnownFiles.{file_from, file_kept, kept_sections}
-use Rattle.lk_input.specs.ReadingFiles.{all_file_kinds, file_candidates_of, file_key_text, file_kind_text, input_file_of, sections_by_kind}
+use Rattle.lk_input.specs.ReadingFiles.{file_kinds, file_candidates_of, input_file_of, sections_by_kind}
 use Rattle.lk_input.specs.ReadingSections.{input_sections_of}
 use Rattle.lk_input.specs.ReadingSteps.{list_of, one_of, text_of, truth_of}
 use Rattle.lk_input.specs.ReadingSymbols.{input_symbol_of}
 use Rattle.lk_input.proofs.Known.{PutsBy, bind_same, field, kept-found, kept-needed}
 use Rattle.lk_input.proofs.Objects.{WantsObject}
+use Rattle.lk_input.specs.Keys.{file_key_text}
 
 -- what is kept of a file goes on by this
 abbrev pub file_put : List ℕ → Data → FileMembers → FileMembers
 file_put k d old = record {
-  kind = if bytes_eq k (file_key_text key.Kind) then Some (one_of file_kind_text all_file_kinds d) else old.kind;
+  kind = if bytes_eq k (file_key_text key.Kind) then Some (one_of file_kinds d) else old.kind;
   name = if bytes_eq k (file_key_text key.Name) then Some (text_of d) else old.name;
   symbols = if bytes_eq k (file_key_text key.Symbols) then Some (list_of input_symbol_of d) else old.symbols;
   sections = if bytes_eq k (file_key_text key.Sections) then Some (input_sections_of d) else old.sections;
@@ -31,7 +32,7 @@ file_put k d old = record {
 pub file-put : PutsBy file_kept file_put
 file-put k d ms =
     rw (
-      field (one_of file_kind_text all_file_kinds) (file_key_text key.Kind) k d ms,
+      field (one_of file_kinds) (file_key_text key.Kind) k d ms,
       field text_of (file_key_text key.Name) k d ms,
       field (list_of input_symbol_of) (file_key_text key.Symbols) k d ms,
       field input_sections_of (file_key_text key.Sections) k d ms,
@@ -57,7 +58,7 @@ sections_same kind.LinkerScript ms = refl
 pub file-kept : (ms : Members) → input_file_of (object ms) ≡ file_from (file_kept ms)
 unfolding input_file_of file_from
 file-kept ms =
-    bind_same _ _ _ _ (kept-needed (one_of file_kind_text all_file_kinds) (file_key_text key.Kind) (get_member (file_key_text key.Kind) ms)) (λ kind.
+    bind_same _ _ _ _ (kept-needed (one_of file_kinds) (file_key_text key.Kind) (get_member (file_key_text key.Kind) ms)) (λ kind.
     bind_same _ _ _ _ (kept-found [] text_of (file_key_text key.Name) (get_member (file_key_text key.Name) ms)) (λ name.
     bind_same _ _ _ _ (kept-found [] (list_of input_symbol_of) (file_key_text key.Symbols) (get_member (file_key_text key.Symbols) ms)) (λ symbols.
     bind_same _ _ _ _ (sections_same kind ms) (λ sections.

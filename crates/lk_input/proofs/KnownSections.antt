@@ -7,16 +7,17 @@ use Rattle.lk_input.specs.declared.read.section.InputSectionKey.TheVariants as k
 use Rattle.lk_input.specs.declared.read.section.SectionMembers.{SectionMembers}
 use Rattle.lk_input.specs.KnownSections.{section_from, section_kept}
 use Rattle.lk_input.specs.ReadingRelocations.{relax_candidate_of, relocation_of}
-use Rattle.lk_input.specs.ReadingSections.{all_slots, hex_bytes, input_section_key_text, input_section_of, slot_text}
+use Rattle.lk_input.specs.ReadingSections.{slots, hex_bytes, input_section_of}
 use Rattle.lk_input.specs.ReadingSteps.{index_of, list_of, number_of, one_of, text_of, truth_of}
 use Rattle.lk_input.proofs.Known.{PutsBy, bind_same, field, kept-found, kept-needed, kept-present}
 use Rattle.lk_input.proofs.Objects.{WantsObject}
+use Rattle.lk_input.specs.Keys.{input_section_key_text}
 
 -- what is kept of a section goes on by this
 abbrev pub section_put : List ℕ → Data → SectionMembers → SectionMembers
 section_put k d old = record {
   name = if bytes_eq k (input_section_key_text key.Name) then Some (text_of d) else old.name;
-  slot = if bytes_eq k (input_section_key_text key.Slot) then Some (one_of slot_text all_slots d) else old.slot;
+  slot = if bytes_eq k (input_section_key_text key.Slot) then Some (one_of slots d) else old.slot;
   part = if bytes_eq k (input_section_key_text key.Part) then Some (index_of d) else old.part;
   size = if bytes_eq k (input_section_key_text key.Size) then Some (number_of d) else old.size;
   bytes = if bytes_eq k (input_section_key_text key.Data) then Some (hex_bytes d) else old.bytes;
@@ -32,7 +33,7 @@ pub section-put : PutsBy section_kept section_put
 section-put k d ms =
     rw (
       field text_of (input_section_key_text key.Name) k d ms,
-      field (one_of slot_text all_slots) (input_section_key_text key.Slot) k d ms,
+      field (one_of slots) (input_section_key_text key.Slot) k d ms,
       field index_of (input_section_key_text key.Part) k d ms,
       field number_of (input_section_key_text key.Size) k d ms,
       field hex_bytes (input_section_key_text key.Data) k d ms,
@@ -52,7 +53,7 @@ pub section-kept : (ms : Members) → input_section_of (object ms) ≡ section_f
 unfolding input_section_of section_from
 section-kept ms =
     bind_same _ _ _ _ (kept-found [] text_of (input_section_key_text key.Name) (get_member (input_section_key_text key.Name) ms)) (λ name.
-    bind_same _ _ _ _ (kept-needed (one_of slot_text all_slots) (input_section_key_text key.Slot) (get_member (input_section_key_text key.Slot) ms)) (λ slot.
+    bind_same _ _ _ _ (kept-needed (one_of slots) (input_section_key_text key.Slot) (get_member (input_section_key_text key.Slot) ms)) (λ slot.
     bind_same _ _ _ _ (kept-found 0 index_of (input_section_key_text key.Part) (get_member (input_section_key_text key.Part) ms)) (λ part.
     bind_same _ _ _ _ (kept-found 0 number_of (input_section_key_text key.Size) (get_member (input_section_key_text key.Size) ms)) (λ size.
     bind_same _ _ _ _ (kept-present hex_bytes (input_section_key_text key.Data) (get_member (input_section_key_text key.Data) ms)) (λ given.

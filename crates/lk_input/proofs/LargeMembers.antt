@@ -10,10 +10,11 @@ use Rattle.lk_input.specs.declared.read.LinkKey.TheVariants as link
 use Rattle.lk_input.specs.declared.read.LinkMembers.{LinkMembers}
 use Rattle.lk_input.specs.Large.{IsSplit}
 use Rattle.lk_input.specs.LargeMembers.{link_large, link_kept, link_from}
-use Rattle.lk_input.specs.Reading.{link_key_text, link_of}
+use Rattle.lk_input.specs.Reading.{link_of}
 use Rattle.lk_input.specs.ReadingFiles.{groups_of}
-use Rattle.lk_input.specs.ReadingSteps.{Path, found_or}
+use Rattle.lk_input.specs.ReadingSteps.{Path, found_or, written}
 use Rattle.lk_input.proofs.Objects.{differ, WantsObject}
+use Rattle.lk_input.specs.Keys.{link_key_text}
 
 -- what was kept of a member is what reading finds in its place
 kept-found : {A : Type 0} (other : A) (f : Data → Result A Path) (o : Option Data) → found_or other f o ≡ unwrap_or (option_map f o) (Ok other)
@@ -25,11 +26,11 @@ unfolding link_of
 link_wants_object d none = rw none refl
 
 options_small : link_large (link_key_text link.Options) ≡ false
-unfolding link_key_text
+unfolding written
 options_small = refl
 
 plan_small : link_large (link_key_text link.Plan) ≡ false
-unfolding link_key_text
+unfolding written
 plan_small = refl
 
 -- it is read of its large member and the others as of all

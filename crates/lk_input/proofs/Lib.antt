@@ -14,3 +14,4 @@ pub mod Relocations
 pub mod Steps
 pub mod Texts
 pub mod Values
+pub mod Words

@@ -15,11 +15,12 @@ use Rattle.lk_input.specs.declared.read.error.InputError.{InputError}
 use Rattle.lk_input.specs.Large.{IsSplit}
 use Rattle.lk_input.specs.LargeMembers.{link_large, link_kept, link_from}
 use Rattle.lk_input.specs.Pieces.{group_of, these_groups, Makes}
-use Rattle.lk_input.specs.Reading.{link_key_text, reading_of, reading_of_json, shaped}
+use Rattle.lk_input.specs.Reading.{reading_of, reading_of_json, shaped}
 use Rattle.lk_input.specs.ReadingFiles.{groups_of}
 use Rattle.lk_input.specs.ReadingSteps.{Path, Reads, read_items}
 use Rattle.lk_input.proofs.LargeMembers.{link-split}
 use Rattle.lk_input.proofs.Objects.{differ}
+use Rattle.lk_input.specs.Keys.{link_key_text}
 
 -- what is read of items that give these
 give_read : {A : Type 0} (f : Data → Result A Path) (i : ℕ) (ds : Items) (xs : List A) → Give f ds xs → read_items f i ds ≡ Ok xs

@@ -25,10 +25,9 @@ pub plain-truth : (b : Bool) → IsPlain truth_of (Token.boolean b) b
 plain-truth b = (boolean b, λ depth ts. data_at-boolean depth b ts, refl)
 
 -- a word
-pub plain-word-by : {A : Type 0} (spelling : A → List ℕ) (words : List A) (s : List ℕ) (o : Option A) → o ≡ word_of spelling words s
-    → IfSome o (λ x. IsPlain (one_of spelling words) (Token.string s) x)
-plain-word-by spelling words s None is = tt
-plain-word-by spelling words s (Some x) is = (string s, λ depth ts. data_at-string depth s ts, ap wanted (sym is))
+pub plain-word-by : {A : Type 0} (words : List (List ℕ × A)) (s : List ℕ) (o : Option A) → o ≡ word_of words s → IfSome o (λ x. IsPlain (one_of words) (Token.string s) x)
+plain-word-by words s None is = tt
+plain-word-by words s (Some x) is = (string s, λ depth ts. data_at-string depth s ts, ap wanted (sym is))
 
 -- a number below 2^32
 pub index-by : (n : Num) (m : ℕ) (o : Option ℕ) → as_u64 n ≡ Some m → o ≡ (if nat_lt m (2 ^ 32) then Some m else None) → index_of (number n) ≡ wanted o

@@ -8,7 +8,7 @@ use Rattle.lk_link.specs.declared.relocation.RelaxCandidate.{RelaxCandidate}
 use Rattle.lk_link.specs.declared.relocation.Relocation.{Relocation}
 use Rattle.lk_link.specs.declared.relocation.RelocationKind.{RelocationKind}
 use Rattle.lk_input.specs.Plain.{elements_with, first_item, fixed_of, no_elements, other_items}
-use Rattle.lk_input.specs.ReadingRelocations.{all_kinds, kind_text, relax_candidate_of, relocation_of}
+use Rattle.lk_input.specs.ReadingRelocations.{kinds, relax_candidate_of, relocation_of}
 use Rattle.lk_input.specs.ReadingSteps.{Path, ◌>>=◌, below, found_by, index_of, number_of, one_of, signed_of, truth_of}
 
 -- ---- items by number
@@ -64,7 +64,7 @@ RelocationItems = ℕ × (RelocationKind × (ℕ × (ℤ × (Bool × ⊤))))
 
 abbrev pub relocation_elements : ℕ → Items → Result RelocationItems Path
 relocation_elements =
-    elements_with number_of (elements_with (one_of kind_text all_kinds) (elements_with index_of (elements_with signed_of (elements_with truth_of (λ _. no_elements)))))
+    elements_with number_of (elements_with (one_of kinds) (elements_with index_of (elements_with signed_of (elements_with truth_of (λ _. no_elements)))))
 
 abbrev pub relocation_from : RelocationItems → Result Relocation Path
 relocation_from p = Ok (record { offset = p.0; addend = p.1.1.1.0; symbol = p.1.1.0; kind = p.1.0; thunkable = p.1.1.1.1.0 })
@@ -78,7 +78,7 @@ relocation_by (string s) = refl
 relocation_by (object ms) = refl
 relocation_by (array ds) =
     element_then _ _ _ _ relocation_from (element_same number_of 0 ds) (λ offset.
-    element_then _ _ _ _ (λ p. relocation_from (offset, p)) (element_same (one_of kind_text all_kinds) 1 ds) (λ k.
+    element_then _ _ _ _ (λ p. relocation_from (offset, p)) (element_same (one_of kinds) 1 ds) (λ k.
     element_then _ _ _ _ (λ p. relocation_from (offset, (k, p))) (element_same index_of 2 ds) (λ symbol.
     element_then _ _ _ _ (λ p. relocation_from (offset, (k, (symbol, p)))) (element_same signed_of 3 ds) (λ addend.
     element_then _ _ _ _ (λ p. relocation_from (offset, (k, (symbol, (addend, p))))) (element_same truth_of 4 ds) (λ thunkable.

@@ -9,9 +9,10 @@ use Rattle.lk_input.specs.declared.read.symbol.SymbolKey.TheVariants as key
 use Rattle.lk_input.specs.declared.read.symbol.SymbolMembers.{SymbolMembers}
 use Rattle.lk_input.specs.Large.{kept_or}
 use Rattle.lk_input.specs.ReadingSteps.{Path, ◌>>=◌, below, index_of, text_of, truth_of}
-use Rattle.lk_input.specs.ReadingSymbols.{symbol_key_text, symbol_placement_of}
+use Rattle.lk_input.specs.ReadingSymbols.{symbol_placement_of}
 use Rattle.lk_pieces.specs.Tokens.{data_at, members_at}
 use Rattle.lk_input.specs.Tokens.{Lacks}
+use Rattle.lk_input.specs.Keys.{symbol_key_text}
 
 -- the member of this key was read: of whatever members something was kept before, it is now kept of them with this one
 abbrev pub Keeps : {K : Type 0} → (Members → K) → List ℕ → ℕ → K → List Token → Result ⊤ Fail → K → List Token → Type 0

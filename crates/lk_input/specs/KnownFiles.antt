@@ -10,15 +10,16 @@ use Rattle.lk_input.specs.declared.read.file.FileKey.TheVariants as key
 use Rattle.lk_input.specs.declared.read.file.FileMembers.{FileMembers}
 use Rattle.lk_input.specs.Known.{kept_needed}
 use Rattle.lk_input.specs.Large.{kept_or}
-use Rattle.lk_input.specs.ReadingFiles.{all_file_kinds, file_candidates_of, file_key_text, file_kind_text}
+use Rattle.lk_input.specs.ReadingFiles.{file_kinds, file_candidates_of}
 use Rattle.lk_input.specs.ReadingSections.{input_sections_of}
 use Rattle.lk_input.specs.ReadingSteps.{Path, ◌>>=◌, list_of, one_of, text_of, truth_of}
 use Rattle.lk_input.specs.ReadingSymbols.{input_symbol_of}
+use Rattle.lk_input.specs.Keys.{file_key_text}
 
 -- what is kept of the members of a file
 abbrev pub file_kept : Members → FileMembers
 file_kept ms = record {
-  kind = option_map (one_of file_kind_text all_file_kinds) (get_member (file_key_text key.Kind) ms);
+  kind = option_map (one_of file_kinds) (get_member (file_key_text key.Kind) ms);
   name = option_map text_of (get_member (file_key_text key.Name) ms);
   symbols = option_map (list_of input_symbol_of) (get_member (file_key_text key.Symbols) ms);
   sections = option_map input_sections_of (get_member (file_key_text key.Sections) ms);

@@ -8,14 +8,15 @@ use Rattle.lk_input.specs.declared.read.section.SectionMembers.{SectionMembers}
 use Rattle.lk_input.specs.Known.{kept_needed, kept_optional}
 use Rattle.lk_input.specs.Large.{kept_or}
 use Rattle.lk_input.specs.ReadingRelocations.{relax_candidate_of, relocation_of}
-use Rattle.lk_input.specs.ReadingSections.{all_slots, hex_bytes, input_section_key_text, size_in, slot_text}
+use Rattle.lk_input.specs.ReadingSections.{slots, hex_bytes, size_in}
 use Rattle.lk_input.specs.ReadingSteps.{Path, ◌>>=◌, index_of, list_of, number_of, one_of, text_of, truth_of}
+use Rattle.lk_input.specs.Keys.{input_section_key_text}
 
 -- what is kept of the members of a section
 abbrev pub section_kept : Members → SectionMembers
 section_kept ms = record {
   name = option_map text_of (get_member (input_section_key_text key.Name) ms);
-  slot = option_map (one_of slot_text all_slots) (get_member (input_section_key_text key.Slot) ms);
+  slot = option_map (one_of slots) (get_member (input_section_key_text key.Slot) ms);
   part = option_map index_of (get_member (input_section_key_text key.Part) ms);
   size = option_map number_of (get_member (input_section_key_text key.Size) ms);
   bytes = option_map hex_bytes (get_member (input_section_key_text key.Data) ms);

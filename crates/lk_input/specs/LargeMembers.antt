@@ -11,7 +11,7 @@ use Rattle.lk_input.specs.ReadingSteps.{Path, ◌>>=◌, required, object_or_emp
 use Rattle.lk_input.specs.ReadingFiles.{groups_of}
 use Rattle.lk_input.specs.ReadingOptions.{options_of}
 use Rattle.lk_input.specs.ReadingPlan.{plan_of}
-use Rattle.lk_input.specs.Reading.{link_key_text}
+use Rattle.lk_input.specs.Keys.{link_key_text}
 
 -- the large member of the whole description: its groups
 abbrev pub link_large : List ℕ → Bool

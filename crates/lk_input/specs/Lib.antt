@@ -1,4 +1,5 @@
 pub mod Kept
+pub mod Keys
 pub mod Known
 pub mod KnownFiles
 pub mod KnownSections
@@ -20,3 +21,4 @@ pub mod ReadingSteps
 pub mod ReadingSymbols
 pub mod Texts
 pub mod Tokens
+pub mod Words

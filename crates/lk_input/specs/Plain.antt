@@ -9,7 +9,7 @@ use Rattle.serde_json.specs.Read.{number_of}
 use Rattle.lk_link.specs.declared.symbol.SymbolPlacement.{SymbolPlacement}
 use Rattle.lk_input.specs.declared.read.symbol.PlacementForm.{PlacementForm}
 use Rattle.lk_input.specs.ReadingSteps.{Path, ◌>>=◌, below, found_by, one_of, wanted}
-use Rattle.lk_input.specs.ReadingSymbols.{all_placements, placement_in, placement_text}
+use Rattle.lk_input.specs.ReadingSymbols.{placements, placement_in}
 use Rattle.lk_pieces.specs.Tokens.{data_at}
 
 -- a token is a value by itself, of which f reads x
@@ -53,7 +53,7 @@ placed_behind form ds = placement_in form (array (item null ds))
 
 -- a placement, of its items
 abbrev pub placement_elements : ℕ → Items → Result SymbolPlacement Path
-placement_elements = led_by (one_of placement_text all_placements) placed_behind
+placement_elements = led_by (one_of placements) placed_behind
 
 -- a fixed list of these items
 abbrev pub fixed_of : {B : Type 0} → (ℕ → Items → Result B Path) → Data → Result B Path

@@ -1,31 +1,23 @@
 -- Reading a link description: what bytes give, or why they give none.
-use Rattle.std.specs.Prelude.{◌≡◌, ℕ, List, [], Option, Some, None, Result, Ok, Err, if◌then◌else◌, codes}
+use Rattle.std.specs.Prelude.{◌≡◌, ℕ, List, [], Option, Some, None, Result, Ok, Err, if◌then◌else◌}
 use Rattle.std.specs.Str.{is_utf8}
 use Rattle.serde_json.specs.Data.{Data}
 use Rattle.serde_json.specs.Read.{read as read_json}
 use Rattle.lk_link.specs.declared.link.LinkInput.{LinkInput}
 use Rattle.lk_input.specs.declared.read.error.InputError.{InputError}
 use Rattle.lk_input.specs.declared.read.error.InputError.TheVariants.{NotJson, Shape, NoMemory}
-use Rattle.lk_input.specs.declared.read.LinkKey.{LinkKey}
-use Rattle.lk_input.specs.declared.read.LinkKey.TheVariants as key
-use Rattle.lk_input.specs.ReadingSteps.{Path, ◌>>=◌, object, required, defaulted, object_or_empty}
+use Rattle.lk_input.specs.ReadingSteps.{Path, ◌>>=◌, object, required, defaulted, object_or_empty, written}
 use Rattle.lk_input.specs.ReadingOptions.{options_of}
 use Rattle.lk_input.specs.ReadingPlan.{plan_of}
 use Rattle.lk_input.specs.ReadingFiles.{groups_of}
-
--- how a key of the description is written
-unfoldable pub link_key_text : LinkKey → List ℕ
-link_key_text key.Options = codes "options"
-link_key_text key.Plan = codes "plan"
-link_key_text key.Groups = codes "groups"
 
 -- the whole description: the plan must be given
 unfoldable pub link_of : Data → Result LinkInput Path
 link_of d = do
   _ ← object d
-  options ← object_or_empty options_of (link_key_text key.Options) d
-  plan ← required plan_of (link_key_text key.Plan) d
-  groups ← defaulted [] groups_of (link_key_text key.Groups) d
+  options ← object_or_empty options_of (written "options") d
+  plan ← required plan_of (written "plan") d
+  groups ← defaulted [] groups_of (written "groups") d
   Ok (record { options = options; plan = plan; groups = groups })
 
 -- the JSON value that bytes are

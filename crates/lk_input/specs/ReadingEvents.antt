@@ -1,25 +1,18 @@
 -- What is read of the events of the placement.
-use Rattle.std.specs.Prelude.{ℕ, List, [], ◌∷◌, Result, Ok, codes}
+use Rattle.std.specs.Prelude.{ℕ, List, [], ◌∷◌, Result, Ok}
 use Rattle.serde_json.specs.Data.{Data}
 use Rattle.lk_link.specs.declared.plan.OrderEvent.{OrderEvent}
 use Rattle.lk_link.specs.declared.plan.OrderEvent.TheVariants.{SegmentStart, SegmentEnd, Section, SetLocation, SetLocationRelative, SetSectionAddress}
 use Rattle.lk_input.specs.declared.read.event.EventForm.{EventForm}
 use Rattle.lk_input.specs.declared.read.event.EventForm.TheVariants as form
-use Rattle.lk_input.specs.ReadingSteps.{Path, ◌>>=◌, index_of, one_of, fixed_list, element, single, double}
+use Rattle.lk_input.specs.ReadingSteps.{Path, ◌>>=◌, index_of, one_of, fixed_list, element, single, double, written}
 use Rattle.lk_input.specs.ReadingExpressions.{expression_of}
 
--- how it is written what an event begins with
-unfoldable pub event_text : EventForm → List ℕ
-event_text form.SegmentStart = codes "seg"
-event_text form.SegmentEnd = codes "endseg"
-event_text form.Section = codes "sec"
-event_text form.Location = codes "loc"
-event_text form.RelativeLocation = codes "locrel"
-event_text form.SectionAddress = codes "addr"
-
 -- what an event can begin with
-abbrev pub all_events : List EventForm
-all_events = form.SegmentStart ∷ form.SegmentEnd ∷ form.Section ∷ form.Location ∷ form.RelativeLocation ∷ form.SectionAddress ∷ []
+abbrev pub events : List (List ℕ × EventForm)
+events =
+    (written "seg", form.SegmentStart) ∷ (written "endseg", form.SegmentEnd) ∷ (written "sec", form.Section) ∷
+    (written "loc", form.Location) ∷ (written "locrel", form.RelativeLocation) ∷ (written "addr", form.SectionAddress) ∷ []
 
 -- `["seg", i]`, `["endseg", i]`, `["sec", i]`, `["loc", expression]`, `["locrel", expression, section]`, `["addr", expression]`
 unfoldable pub event_in : EventForm → Data → Result OrderEvent Path
@@ -34,5 +27,5 @@ event_in form.SectionAddress d = single expression_of d >>= λ e. Ok (SetSection
 unfoldable pub order_event_of : Data → Result OrderEvent Path
 order_event_of d = do
   _ ← fixed_list d
-  f ← element (one_of event_text all_events) 0 d
+  f ← element (one_of events) 0 d
   event_in f d

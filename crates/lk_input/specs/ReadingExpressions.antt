@@ -1,5 +1,5 @@
 -- What is read of an expression.
-use Rattle.std.specs.Prelude.{◌≡◌, ℕ, List, [], ◌∷◌, ◌++◌, Result, Ok, Err, ⊤, codes, slice_get}
+use Rattle.std.specs.Prelude.{◌≡◌, ℕ, List, [], ◌∷◌, ◌++◌, Result, Ok, Err, ⊤, slice_get}
 use Rattle.std.specs.Fmt.{decimal}
 use Rattle.serde_json.specs.Data.{Data, array, Items, no_items, item}
 use Rattle.lk_link.specs.declared.expression.Operand.{Operand}
@@ -13,42 +13,19 @@ use Rattle.lk_input.specs.declared.read.expression.OperandForm.{OperandForm}
 use Rattle.lk_input.specs.declared.read.expression.OperandForm.TheVariants as operand
 use Rattle.lk_input.specs.declared.read.expression.ExpressionForm.{ExpressionForm}
 use Rattle.lk_input.specs.declared.read.expression.ExpressionForm.TheVariants as form
-use Rattle.lk_input.specs.ReadingSteps.{Path, ◌>>=◌, Fails, below, wanted, number_of, index_of, one_of, element, at_most, alone, single}
-
--- how an operand is written
-unfoldable pub operand_text : OperandForm → List ℕ
-operand_text operand.Number = codes "num"
-operand_text operand.Symbol = codes "sym"
-operand_text operand.Dot = codes "dot"
-operand_text operand.Address = codes "addr"
-operand_text operand.SizeOf = codes "sizeof"
-operand_text operand.Origin = codes "origin"
-operand_text operand.Length = codes "length"
-operand_text operand.Headers = codes "headers"
-
--- how an operator is written
-unfoldable pub operator_text : Operator → List ℕ
-operator_text operator.Add = codes "add"
-operator_text operator.Subtract = codes "sub"
-operator_text operator.Multiply = codes "mul"
-operator_text operator.Divide = codes "div"
-operator_text operator.Align = codes "align"
-operator_text operator.Max = codes "max"
-operator_text operator.Min = codes "min"
-
--- how it is written what an expression begins with
-abbrev pub form_text : ExpressionForm → List ℕ
-form_text (form.Operand o) = operand_text o
-form_text (form.Operator o) = operator_text o
+use Rattle.lk_input.specs.ReadingSteps.{Path, ◌>>=◌, Fails, below, wanted, number_of, index_of, one_of, element, at_most, alone, single, written}
 
 -- what an expression can begin with
-abbrev pub all_forms : List ExpressionForm
-all_forms =
-    form.Operand operand.Number ∷ form.Operand operand.Symbol ∷ form.Operand operand.Dot ∷
-    form.Operator operator.Add ∷ form.Operator operator.Subtract ∷ form.Operator operator.Multiply ∷
-    form.Operator operator.Divide ∷ form.Operator operator.Align ∷ form.Operator operator.Max ∷
-    form.Operator operator.Min ∷ form.Operand operand.Address ∷ form.Operand operand.SizeOf ∷
-    form.Operand operand.Origin ∷ form.Operand operand.Length ∷ form.Operand operand.Headers ∷ []
+abbrev pub forms : List (List ℕ × ExpressionForm)
+forms =
+    (written "num", form.Operand operand.Number) ∷ (written "sym", form.Operand operand.Symbol) ∷
+    (written "dot", form.Operand operand.Dot) ∷ (written "add", form.Operator operator.Add) ∷
+    (written "sub", form.Operator operator.Subtract) ∷ (written "mul", form.Operator operator.Multiply) ∷
+    (written "div", form.Operator operator.Divide) ∷ (written "align", form.Operator operator.Align) ∷
+    (written "max", form.Operator operator.Max) ∷ (written "min", form.Operator operator.Min) ∷
+    (written "addr", form.Operand operand.Address) ∷ (written "sizeof", form.Operand operand.SizeOf) ∷
+    (written "origin", form.Operand operand.Origin) ∷ (written "length", form.Operand operand.Length) ∷
+    (written "headers", form.Operand operand.Headers) ∷ []
 
 -- the operand that an expression of this form is
 unfoldable pub operand_of : OperandForm → Data → Result Operand Path
@@ -77,7 +54,7 @@ expression_from (form.Operator o) d parts = do
 unfoldable mutual
   -- an expression
   pub expression_of : Data → Result Term Path
-  expression_of (array ds) = element (one_of form_text all_forms) 0 (array ds) >>= λ f. expression_from f (array ds) (expressions_of ds)
+  expression_of (array ds) = element (one_of forms) 0 (array ds) >>= λ f. expression_from f (array ds) (expressions_of ds)
   expression_of _ = Err []
 
   -- each item as an expression

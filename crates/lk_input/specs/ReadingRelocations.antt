@@ -1,82 +1,42 @@
 -- What is read of relocations and of relaxation candidates.
-use Rattle.std.specs.Prelude.{ℕ, List, [], ◌∷◌, Result, Ok, codes}
+use Rattle.std.specs.Prelude.{ℕ, List, [], ◌∷◌, Result, Ok}
 use Rattle.serde_json.specs.Data.{Data}
 use Rattle.lk_link.specs.declared.relocation.RelocationKind.{RelocationKind}
 use Rattle.lk_link.specs.declared.relocation.RelocationKind.TheVariants as kind
 use Rattle.lk_link.specs.declared.relocation.Relocation.{Relocation}
 use Rattle.lk_link.specs.declared.relocation.RelaxCandidate.{RelaxCandidate}
-use Rattle.lk_input.specs.ReadingSteps.{Path, ◌>>=◌, number_of, index_of, signed_of, truth_of, one_of, fixed_list, element, at_most}
-
--- how a kind is written that goes by a table or by thread-local data; nothing for others
-unfoldable pub entry_kind_text : RelocationKind → List ℕ
-entry_kind_text kind.PltRelative = codes "PltRelative"
-entry_kind_text kind.PltRelGotBase = codes "PltRelGotBase"
-entry_kind_text kind.Got = codes "Got"
-entry_kind_text kind.GotRelGotBase = codes "GotRelGotBase"
-entry_kind_text kind.GotRelative = codes "GotRelative"
-entry_kind_text kind.GotRelativeLoongArch64 = codes "GotRelativeLoongArch64"
-entry_kind_text kind.GotTpOff = codes "GotTpOff"
-entry_kind_text kind.GotTpOffLoongArch64 = codes "GotTpOffLoongArch64"
-entry_kind_text kind.GotTpOffGot = codes "GotTpOffGot"
-entry_kind_text kind.GotTpOffGotBase = codes "GotTpOffGotBase"
-entry_kind_text kind.TlsGd = codes "TlsGd"
-entry_kind_text kind.TlsGdGot = codes "TlsGdGot"
-entry_kind_text kind.TlsGdGotBase = codes "TlsGdGotBase"
-entry_kind_text kind.TlsDesc = codes "TlsDesc"
-entry_kind_text kind.TlsDescLoongArch64 = codes "TlsDescLoongArch64"
-entry_kind_text kind.TlsDescGot = codes "TlsDescGot"
-entry_kind_text kind.TlsDescGotBase = codes "TlsDescGotBase"
-entry_kind_text kind.TlsDescCall = codes "TlsDescCall"
-entry_kind_text kind.TlsLd = codes "TlsLd"
-entry_kind_text kind.TlsLdGot = codes "TlsLdGot"
-entry_kind_text kind.TlsLdGotBase = codes "TlsLdGotBase"
-entry_kind_text _ = []
-
--- how a kind is written: its name
-unfoldable pub kind_text : RelocationKind → List ℕ
-kind_text kind.Absolute = codes "Absolute"
-kind_text kind.AbsoluteSet = codes "AbsoluteSet"
-kind_text kind.AbsoluteSetWord6 = codes "AbsoluteSetWord6"
-kind_text kind.AbsoluteAddition = codes "AbsoluteAddition"
-kind_text kind.AbsoluteAdditionWord6 = codes "AbsoluteAdditionWord6"
-kind_text kind.AbsoluteSubtraction = codes "AbsoluteSubtraction"
-kind_text kind.AbsoluteSubtractionWord6 = codes "AbsoluteSubtractionWord6"
-kind_text kind.AbsoluteLowPart = codes "AbsoluteLowPart"
-kind_text kind.Relative = codes "Relative"
-kind_text kind.RelativeRiscVLow12 = codes "RelativeRiscVLow12"
-kind_text kind.RelativeLoongArchHigh = codes "RelativeLoongArchHigh"
-kind_text kind.DtpOff = codes "DtpOff"
-kind_text kind.TpOff = codes "TpOff"
-kind_text kind.SymRelGotBase = codes "SymRelGotBase"
-kind_text kind.PairSubtractionULEB128RiscV = codes "PairSubtractionULEB128RiscV"
-kind_text kind.PairSubtractionULEB128LoongArch = codes "PairSubtractionULEB128LoongArch"
-kind_text kind.MachoSubtraction = codes "MachoSubtraction"
-kind_text kind.SymbolSize = codes "SymbolSize"
-kind_text kind.None = codes "None"
-kind_text kind.Alignment = codes "Alignment"
-kind_text kind.MachoAddition = codes "MachoAddition"
-kind_text k = entry_kind_text k
+use Rattle.lk_input.specs.ReadingSteps.{Path, ◌>>=◌, number_of, index_of, signed_of, truth_of, one_of, fixed_list, element, at_most, written}
 
 -- all kinds
-abbrev pub all_kinds : List RelocationKind
-all_kinds =
-    kind.Absolute ∷ kind.Relative ∷ kind.PltRelative ∷ kind.Got ∷ kind.GotRelative ∷ kind.GotTpOff ∷
-    kind.TpOff ∷ kind.DtpOff ∷ kind.TlsGd ∷ kind.TlsLd ∷ kind.TlsDesc ∷ kind.TlsDescCall ∷ kind.None ∷
-    kind.SymbolSize ∷ kind.SymRelGotBase ∷ kind.PltRelGotBase ∷ kind.GotRelGotBase ∷
-    kind.GotRelativeLoongArch64 ∷ kind.GotTpOffLoongArch64 ∷ kind.GotTpOffGot ∷ kind.GotTpOffGotBase ∷
-    kind.TlsGdGot ∷ kind.TlsGdGotBase ∷ kind.TlsDescLoongArch64 ∷ kind.TlsDescGot ∷ kind.TlsDescGotBase ∷
-    kind.TlsLdGot ∷ kind.TlsLdGotBase ∷ kind.AbsoluteSet ∷ kind.AbsoluteSetWord6 ∷ kind.AbsoluteAddition ∷
-    kind.AbsoluteAdditionWord6 ∷ kind.AbsoluteSubtraction ∷ kind.AbsoluteSubtractionWord6 ∷
-    kind.AbsoluteLowPart ∷ kind.RelativeRiscVLow12 ∷ kind.RelativeLoongArchHigh ∷
-    kind.PairSubtractionULEB128RiscV ∷ kind.PairSubtractionULEB128LoongArch ∷ kind.MachoSubtraction ∷
-    kind.Alignment ∷ kind.MachoAddition ∷ []
+abbrev pub kinds : List (List ℕ × RelocationKind)
+kinds =
+    (written "Absolute", kind.Absolute) ∷ (written "Relative", kind.Relative) ∷ (written "PltRelative", kind.PltRelative) ∷
+    (written "Got", kind.Got) ∷ (written "GotRelative", kind.GotRelative) ∷ (written "GotTpOff", kind.GotTpOff) ∷
+    (written "TpOff", kind.TpOff) ∷ (written "DtpOff", kind.DtpOff) ∷ (written "TlsGd", kind.TlsGd) ∷ (written "TlsLd", kind.TlsLd) ∷
+    (written "TlsDesc", kind.TlsDesc) ∷ (written "TlsDescCall", kind.TlsDescCall) ∷ (written "None", kind.None) ∷
+    (written "SymbolSize", kind.SymbolSize) ∷ (written "SymRelGotBase", kind.SymRelGotBase) ∷
+    (written "PltRelGotBase", kind.PltRelGotBase) ∷ (written "GotRelGotBase", kind.GotRelGotBase) ∷
+    (written "GotRelativeLoongArch64", kind.GotRelativeLoongArch64) ∷ (written "GotTpOffLoongArch64", kind.GotTpOffLoongArch64) ∷
+    (written "GotTpOffGot", kind.GotTpOffGot) ∷ (written "GotTpOffGotBase", kind.GotTpOffGotBase) ∷
+    (written "TlsGdGot", kind.TlsGdGot) ∷ (written "TlsGdGotBase", kind.TlsGdGotBase) ∷
+    (written "TlsDescLoongArch64", kind.TlsDescLoongArch64) ∷ (written "TlsDescGot", kind.TlsDescGot) ∷
+    (written "TlsDescGotBase", kind.TlsDescGotBase) ∷ (written "TlsLdGot", kind.TlsLdGot) ∷
+    (written "TlsLdGotBase", kind.TlsLdGotBase) ∷ (written "AbsoluteSet", kind.AbsoluteSet) ∷
+    (written "AbsoluteSetWord6", kind.AbsoluteSetWord6) ∷ (written "AbsoluteAddition", kind.AbsoluteAddition) ∷
+    (written "AbsoluteAdditionWord6", kind.AbsoluteAdditionWord6) ∷ (written "AbsoluteSubtraction", kind.AbsoluteSubtraction) ∷
+    (written "AbsoluteSubtractionWord6", kind.AbsoluteSubtractionWord6) ∷ (written "AbsoluteLowPart", kind.AbsoluteLowPart) ∷
+    (written "RelativeRiscVLow12", kind.RelativeRiscVLow12) ∷ (written "RelativeLoongArchHigh", kind.RelativeLoongArchHigh) ∷
+    (written "PairSubtractionULEB128RiscV", kind.PairSubtractionULEB128RiscV) ∷
+    (written "PairSubtractionULEB128LoongArch", kind.PairSubtractionULEB128LoongArch) ∷
+    (written "MachoSubtraction", kind.MachoSubtraction) ∷ (written "Alignment", kind.Alignment) ∷
+    (written "MachoAddition", kind.MachoAddition) ∷ []
 
 -- `[offset, kind, local symbol, addend, thunkable]`
 unfoldable pub relocation_of : Data → Result Relocation Path
 relocation_of d = do
   _ ← fixed_list d
   offset ← element number_of 0 d
-  k ← element (one_of kind_text all_kinds) 1 d
+  k ← element (one_of kinds) 1 d
   symbol ← element index_of 2 d
   addend ← element signed_of 3 d
   thunkable ← element truth_of 4 d

@@ -1,5 +1,6 @@
 -- The steps of reading a JSON value: each gives what is read, or the path of the first value of a wrong shape.
-use Rattle.std.specs.Prelude.{◌≡◌, ℕ, suc, ℤ, Bool, List, [], ◌∷◌, ◌++◌, Option, Some, None, Result, Ok, Err, ⊤, is_some, nat_lt, ◌^◌, if◌then◌else◌, option_and_then, unwrap_or, find}
+use Rattle.std.specs.Prelude.{◌≡◌, ℕ, suc, ℤ, Bool, List, [], ◌∷◌, ◌++◌, Option, Some, None, Result, Ok, Err, ⊤, is_some, nat_lt, ◌^◌, if◌then◌else◌, option_and_then, option_map, unwrap_or, find, codes}
+use Prim.Native.String.{String}
 use Rattle.std.specs.Fmt.{decimal}
 use Rattle.std.specs.Str.{bytes_eq}
 use Rattle.serde_json.specs.Data.{Data, object as object_of, Items, no_items, item, no_members}
@@ -23,6 +24,10 @@ infixl 10 ◌>>=◌
 abbrev pub ◌>>=◌ : {A B : Type 0} → Result A Path → (A → Result B Path) → Result B Path
 (Ok x) >>= f = f x
 (Err path) >>= f = Err path
+
+-- a key, or a listed text, as its bytes
+unfoldable pub written : String → List ℕ
+written text = codes text
 
 -- ---- what the code answers
 
@@ -89,13 +94,13 @@ truth_of d = wanted (as_bool d)
 abbrev pub text_of : Data → Result (List ℕ) Path
 text_of d = wanted (as_str d)
 
--- the first of these words that is written so
-abbrev pub word_of : {A : Type 0} → (A → List ℕ) → List A → List ℕ → Option A
-word_of spelling words t = find (λ w. bytes_eq t (spelling w)) words
+-- what stands beside a text in a table
+abbrev pub word_of : {A : Type 0} → List (List ℕ × A) → List ℕ → Option A
+word_of words t = option_map (λ w. w.1) (find (λ w. bytes_eq t w.0) words)
 
--- one of these words
-abbrev pub one_of : {A : Type 0} → (A → List ℕ) → List A → Data → Result A Path
-one_of spelling words d = wanted (option_and_then (word_of spelling words) (as_str d))
+-- one of the texts of a table
+abbrev pub one_of : {A : Type 0} → List (List ℕ × A) → Data → Result A Path
+one_of words d = wanted (option_and_then (word_of words) (as_str d))
 
 -- ---- objects
 

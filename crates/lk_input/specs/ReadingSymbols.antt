@@ -1,5 +1,5 @@
 -- What is read of a symbol, in the order of its fields.
-use Rattle.std.specs.Prelude.{ℕ, List, [], ◌∷◌, Result, Ok, false, codes}
+use Rattle.std.specs.Prelude.{ℕ, List, [], ◌∷◌, Result, Ok, false}
 use Rattle.serde_json.specs.Data.{Data}
 use Rattle.lk_link.specs.declared.symbol.SymbolLoc.{SymbolLoc}
 use Rattle.lk_link.specs.declared.symbol.SymbolLoc.TheVariants as loc
@@ -10,23 +10,14 @@ use Rattle.lk_input.specs.declared.read.symbol.LocForm.{LocForm}
 use Rattle.lk_input.specs.declared.read.symbol.LocForm.TheVariants as loc_form
 use Rattle.lk_input.specs.declared.read.symbol.PlacementForm.{PlacementForm}
 use Rattle.lk_input.specs.declared.read.symbol.PlacementForm.TheVariants as form
-use Rattle.lk_input.specs.declared.read.symbol.SymbolKey.{SymbolKey}
-use Rattle.lk_input.specs.declared.read.symbol.SymbolKey.TheVariants as key
-use Rattle.lk_input.specs.ReadingSteps.{Path, ◌>>=◌, number_of, index_of, truth_of, text_of, one_of, object, required, defaulted, optional, fixed_list, element, at_most, alone, single, double}
+use Rattle.lk_input.specs.ReadingSteps.{Path, ◌>>=◌, number_of, index_of, truth_of, text_of, one_of, object, required, defaulted, optional, fixed_list, element, at_most, alone, single, double, written}
 use Rattle.lk_input.specs.ReadingExpressions.{expression_of}
 
 -- ---- the location counter
 
--- how it is written what its place begins with
-unfoldable pub loc_text : LocForm → List ℕ
-loc_text loc_form.None = codes "none"
-loc_text loc_form.Start = codes "start"
-loc_text loc_form.End = codes "end"
-loc_text loc_form.Counter = codes "counter"
-
 -- what its place can begin with
-abbrev pub all_locs : List LocForm
-all_locs = loc_form.None ∷ loc_form.Start ∷ loc_form.End ∷ loc_form.Counter ∷ []
+abbrev pub locs : List (List ℕ × LocForm)
+locs = (written "none", loc_form.None) ∷ (written "start", loc_form.Start) ∷ (written "end", loc_form.End) ∷ (written "counter", loc_form.Counter) ∷ []
 
 -- `["none"]`, `["start", section]`, `["end", section]`, `["counter", n]`
 unfoldable pub loc_in : LocForm → Data → Result SymbolLoc Path
@@ -39,33 +30,18 @@ loc_in loc_form.Counter d = single index_of d >>= λ i. Ok (loc.Counter i)
 unfoldable pub symbol_loc_of : Data → Result SymbolLoc Path
 symbol_loc_of d = do
   _ ← fixed_list d
-  f ← element (one_of loc_text all_locs) 0 d
+  f ← element (one_of locs) 0 d
   loc_in f d
 
 -- ---- placements
 
--- how it is written what a placement begins with
-unfoldable pub placement_text : PlacementForm → List ℕ
-placement_text form.Section = codes "sec"
-placement_text form.Common = codes "common"
-placement_text form.Absolute = codes "abs"
-placement_text form.Undef = codes "undef"
-placement_text form.Dynamic = codes "dyn"
-placement_text form.Undefined = codes "undefined"
-placement_text form.ForceUndefined = codes "force"
-placement_text form.SectionStart = codes "start"
-placement_text form.SectionEnd = codes "end"
-placement_text form.SectionGroupEnd = codes "groupend"
-placement_text form.TlsEnd = codes "tlsend"
-placement_text form.LoadBaseAddress = codes "loadbase"
-placement_text form.Redirect = codes "redirect"
-
 -- what one can begin with, in a file of any kind
-abbrev pub all_placements : List PlacementForm
-all_placements =
-    form.Section ∷ form.Common ∷ form.Absolute ∷ form.Undef ∷ form.Dynamic ∷ form.Undefined ∷
-    form.ForceUndefined ∷ form.SectionStart ∷ form.SectionEnd ∷ form.SectionGroupEnd ∷ form.TlsEnd ∷
-    form.LoadBaseAddress ∷ form.Redirect ∷ []
+abbrev pub placements : List (List ℕ × PlacementForm)
+placements =
+    (written "sec", form.Section) ∷ (written "common", form.Common) ∷ (written "abs", form.Absolute) ∷ (written "undef", form.Undef) ∷
+    (written "dyn", form.Dynamic) ∷ (written "undefined", form.Undefined) ∷ (written "force", form.ForceUndefined) ∷
+    (written "start", form.SectionStart) ∷ (written "end", form.SectionEnd) ∷ (written "groupend", form.SectionGroupEnd) ∷
+    (written "tlsend", form.TlsEnd) ∷ (written "loadbase", form.LoadBaseAddress) ∷ (written "redirect", form.Redirect) ∷ []
 
 -- `["redirect", expression, location, provide]`
 unfoldable pub redirect_of : Data → Result SymbolPlacement Path
@@ -96,30 +72,20 @@ placement_in form.Redirect d = redirect_of d
 unfoldable pub symbol_placement_of : Data → Result SymbolPlacement Path
 symbol_placement_of d = do
   _ ← fixed_list d
-  f ← element (one_of placement_text all_placements) 0 d
+  f ← element (one_of placements) 0 d
   placement_in f d
 
 -- ---- symbols
-
--- how a key of a symbol is written
-unfoldable pub symbol_key_text : SymbolKey → List ℕ
-symbol_key_text key.Name = codes "name"
-symbol_key_text key.At = codes "at"
-symbol_key_text key.Def = codes "def"
-symbol_key_text key.Flags = codes "flags"
-symbol_key_text key.Local = codes "local"
-symbol_key_text key.Weak = codes "weak"
-symbol_key_text key.Hidden = codes "hidden"
 
 -- a symbol: its placement must be given
 unfoldable pub input_symbol_of : Data → Result InputSymbol Path
 input_symbol_of d = do
   _ ← object d
-  name ← defaulted [] text_of (symbol_key_text key.Name) d
-  at ← required symbol_placement_of (symbol_key_text key.At) d
-  def ← optional index_of (symbol_key_text key.Def) d
-  flags ← defaulted 0 index_of (symbol_key_text key.Flags) d
-  local ← defaulted false truth_of (symbol_key_text key.Local) d
-  weak ← defaulted false truth_of (symbol_key_text key.Weak) d
-  hidden ← defaulted false truth_of (symbol_key_text key.Hidden) d
+  name ← defaulted [] text_of (written "name") d
+  at ← required symbol_placement_of (written "at") d
+  def ← optional index_of (written "def") d
+  flags ← defaulted 0 index_of (written "flags") d
+  local ← defaulted false truth_of (written "local") d
+  weak ← defaulted false truth_of (written "weak") d
+  hidden ← defaulted false truth_of (written "hidden") d
   Ok (record { name = name; at = at; def = def; flags = record { 0 = flags }; local = local; weak = weak; hidden = hidden })

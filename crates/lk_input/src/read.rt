@@ -16,10 +16,11 @@ ghost use Rattle.json.specs.Reads.{token_of};
 ghost use Rattle.serde_json.specs.Read.{read as read_json};
 ghost use Rattle.serde_json.specs.View.{view};
 ghost use Rattle.lk_input.specs.LargeMembers.{link_large, link_kept, link_from};
-ghost use Rattle.lk_input.specs.Reading.{link_key_text, link_of, reading_of_json, reading_of, Answers};
+ghost use Rattle.lk_input.specs.Reading.{link_of, reading_of_json, reading_of, Answers};
 ghost use Rattle.lk_input.specs.ReadingSteps.{Reads};
 ghost use Rattle.lk_pieces.specs.Tokens.{data_at};
 ghost use Rattle.lk_input.specs.Tokens.{Stands, as_is};
+ghost use Rattle.lk_input.specs.Keys.{link_key_text};
 
 mod cuts;
 mod described;
@@ -72,14 +73,14 @@ const MAX_DEPTH: usize = 127;
 const PIECE: usize = 1 << 20;
 
 /// A key of the description.
-#[derive(Clone, Copy, Debug, PartialEq, Eq)]
+#[derive(Clone, Copy)]
 enum LinkKey {
     Options,
     Plan,
     Groups,
 }
 
-#[tactic(auto, unfolding(crate::specs::Reading::link_key_text))]
+#[tactic(auto, unfolding(crate::specs::ReadingSteps::written))]
 impl Word for LinkKey {
     ghost spelling = { link_key_text };
 

@@ -5,11 +5,13 @@
 //! small members are read from a value. A list of values has a loop, which reads the items one after the other into a
 //! list that has room for all of them.
 
-ghost use Rattle.std.specs.Prelude.{◌≡◌, Result, option_map, List as Items, ℕ};
+ghost use Rattle.std.specs.Prelude.{◌≡◌, Result, find, option_map, List as Items, ℕ};
+ghost use Rattle.std.specs.Str.{bytes_eq};
 ghost use Rattle.serde_json.specs.Data.{Data};
 ghost use Rattle.serde_json.specs.View.{view, items_view};
 ghost use Rattle.lk_input.specs.ReadingSteps.{Reads, step_text, wanted, number_of, index_of, signed_of, truth_of};
 ghost use Rattle.lk_input.specs.ReadingSteps.{text_of, found_by, below, read_items, list_of, word_of, one_of};
+ghost use Rattle.lk_input.specs.Words.{spelled};
 
 use crate::read::error::InputError;
 use crate::read::word::{Step, Word};
@@ -169,14 +171,23 @@ fn read_found<T: Described>(alloc: Global, found: Option<&Value>) -> Result<T, I
 
 /// One of these words.
 pub(crate) fn one_of<W: Word>(alloc: Global, value: &Value, words: &[W]) -> Result<W, InputError>
-    ensures { Reads result (one_of W.spelling words.now (view value.now)) }
+    ensures { Reads result (one_of (spelled W.spelling words.now) (view value.now)) }
 {
     let text = wanted(alloc, value.as_str())?;
     wanted(alloc, word_of(text, words))
 }
 
-pub(crate) fn word_of<W: Word>(text: &str, words: &[W]) -> Option<W>
-    ensures { result ≡ word_of W.spelling words.now text.now }
+/// The first of these words that is written so.
+#[inline(always)]
+fn first_word<W: Word>(text: &str, words: &[W]) -> Option<W>
+    ensures { result ≡ find (λ w. bytes_eq text.now (W.spelling w)) words.now }
 {
     words.iter().copied().find(|word| text == word.text())
+}
+
+/// The same, by the table of these words.
+pub(crate) fn word_of<W: Word>(text: &str, words: &[W]) -> Option<W>
+    ensures { result ≡ word_of (spelled W.spelling words.now) text.now }
+{
+    first_word(text, words)
 }

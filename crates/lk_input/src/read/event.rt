@@ -2,8 +2,9 @@
 
 ghost use Rattle.std.specs.Prelude.{◌≡◌};
 ghost use Rattle.serde_json.specs.View.{view};
-ghost use Rattle.lk_input.specs.ReadingEvents.{event_text, all_events, event_in, order_event_of};
+ghost use Rattle.lk_input.specs.ReadingEvents.{events, event_in, order_event_of};
 ghost use Rattle.lk_input.specs.ReadingSteps.{Reads, one_of};
+ghost use Rattle.lk_input.specs.Words.{event_text};
 
 use crate::read::described::{Described, one_of};
 use crate::read::error::InputError;
@@ -14,7 +15,7 @@ use serde_json::Value;
 use std::alloc::Global;
 
 /// What an event begins with.
-#[derive(Clone, Copy, Debug, PartialEq, Eq)]
+#[derive(Clone, Copy)]
 pub(crate) enum EventForm {
     SegmentStart,
     SegmentEnd,
@@ -24,7 +25,7 @@ pub(crate) enum EventForm {
     SectionAddress,
 }
 
-#[tactic(auto, unfolding(crate::specs::ReadingEvents::event_text))]
+#[tactic(auto, unfolding(crate::specs::Words::event_text, crate::specs::ReadingSteps::written))]
 impl Word for EventForm {
     ghost spelling = { event_text };
 
@@ -40,8 +41,9 @@ impl Word for EventForm {
     }
 }
 
+#[tactic(auto, unfolding(crate::specs::Words::event_text))]
 impl Described for EventForm {
-    ghost described = { one_of event_text all_events };
+    ghost described = { one_of events };
 
     fn read(alloc: Global, value: &Value) -> Result<EventForm, InputError> {
         one_of(

@@ -7,9 +7,10 @@
 
 ghost use Rattle.std.specs.Prelude.{◌≡◌};
 ghost use Rattle.serde_json.specs.View.{view};
-ghost use Rattle.lk_input.specs.ReadingExpressions.{operand_text, operator_text, form_text, all_forms};
+ghost use Rattle.lk_input.specs.ReadingExpressions.{forms};
 ghost use Rattle.lk_input.specs.ReadingExpressions.{operand_of, expression_of, AddsTokens};
 ghost use Rattle.lk_input.specs.ReadingSteps.{Reads, element, one_of};
+ghost use Rattle.lk_input.specs.Words.{operand_text, operator_text, form_text};
 
 use crate::read::described::{Described, one_of};
 use crate::read::error::InputError;
@@ -21,7 +22,7 @@ use serde_json::Value;
 use std::alloc::Global;
 
 /// What an expression without expressions inside begins with.
-#[derive(Clone, Copy, Debug, PartialEq, Eq)]
+#[derive(Clone, Copy)]
 pub(crate) enum OperandForm {
     Number,
     Symbol,
@@ -33,7 +34,7 @@ pub(crate) enum OperandForm {
     Headers,
 }
 
-#[tactic(auto, unfolding(crate::specs::ReadingExpressions::operand_text))]
+#[tactic(auto, unfolding(crate::specs::Words::operand_text, crate::specs::ReadingSteps::written))]
 impl Word for OperandForm {
     ghost spelling = { operand_text };
 
@@ -51,7 +52,7 @@ impl Word for OperandForm {
     }
 }
 
-#[tactic(auto, unfolding(crate::specs::ReadingExpressions::operator_text))]
+#[tactic(auto, unfolding(crate::specs::Words::operator_text, crate::specs::ReadingSteps::written))]
 impl Word for Operator {
     ghost spelling = { operator_text };
 
@@ -69,7 +70,7 @@ impl Word for Operator {
 }
 
 /// What an expression begins with.
-#[derive(Clone, Copy, Debug, PartialEq, Eq)]
+#[derive(Clone, Copy)]
 pub(crate) enum ExpressionForm {
     Operand(OperandForm),
     Operator(Operator),
@@ -104,8 +105,9 @@ const FORMS: [ExpressionForm; 15] = [
     ExpressionForm::Operand(OperandForm::Headers),
 ];
 
+#[tactic(auto, unfolding(crate::specs::Words::operand_text, crate::specs::Words::operator_text))]
 impl Described for ExpressionForm {
-    ghost described = { one_of form_text all_forms };
+    ghost described = { one_of forms };
 
     fn read(alloc: Global, value: &Value) -> Result<ExpressionForm, InputError> {
         one_of(alloc, value, &FORMS)

@@ -6,7 +6,7 @@ ghost use Rattle.lk_input.specs.declared.read.fail.Fail.TheVariants.{NotJson, No
 use std::alloc::{AllocError, AllocFailed};
 
 /// Why tokens were read no further.
-#[derive(Clone, Copy, Debug, PartialEq, Eq, Drop)]
+#[derive(Clone, Copy, Drop)]
 pub(crate) enum Fail {
     /// The tokens are none of a JSON text.
     NotJson,

@@ -4,11 +4,13 @@ ghost use Rattle.std.specs.Prelude.{◌≡◌, ◌∷◌};
 ghost use Rattle.json.specs.Json.{parse_map};
 ghost use Rattle.json.specs.Reads.{token_of};
 ghost use Rattle.lk_input.specs.KnownFiles.{file_from, file_kept, kept_sections};
-ghost use Rattle.lk_input.specs.ReadingFiles.{file_key_text, file_kind_text, all_file_kinds, candidate_of};
+ghost use Rattle.lk_input.specs.ReadingFiles.{file_kinds, candidate_of};
 ghost use Rattle.lk_input.specs.ReadingFiles.{file_candidates_of, input_file_of, groups_of};
 ghost use Rattle.lk_input.specs.ReadingSteps.{Reads, one_of};
 ghost use Rattle.lk_pieces.specs.Tokens.{data_at};
 ghost use Rattle.lk_input.specs.Tokens.{Stands, as_is};
+ghost use Rattle.lk_input.specs.Keys.{file_key_text};
+ghost use Rattle.lk_input.specs.Words.{file_kind_text};
 
 use crate::read::described::{Described, one_of};
 use crate::read::error::InputError;
@@ -32,7 +34,7 @@ use serde_json::Value;
 use std::alloc::Global;
 
 /// A key of a file.
-#[derive(Clone, Copy, Debug, PartialEq, Eq)]
+#[derive(Clone, Copy)]
 pub(crate) enum FileKey {
     Kind,
     Name,
@@ -44,7 +46,7 @@ pub(crate) enum FileKey {
     Candidates,
 }
 
-#[tactic(auto, unfolding(crate::specs::ReadingFiles::file_key_text))]
+#[tactic(auto, unfolding(crate::specs::ReadingSteps::written))]
 impl Word for FileKey {
     ghost spelling = { file_key_text };
 
@@ -62,7 +64,7 @@ impl Word for FileKey {
     }
 }
 
-#[tactic(auto, unfolding(crate::specs::ReadingFiles::file_kind_text))]
+#[tactic(auto, unfolding(crate::specs::Words::file_kind_text, crate::specs::ReadingSteps::written))]
 impl Word for FileKind {
     ghost spelling = { file_kind_text };
 
@@ -88,14 +90,16 @@ const FILE_KINDS: [FileKind; 6] = [
     FileKind::LinkerScript,
 ];
 
+#[tactic(auto, unfolding(crate::specs::Words::file_kind_text))]
 impl Described for FileKind {
-    ghost described = { one_of file_kind_text all_file_kinds };
+    ghost described = { one_of file_kinds };
 
     fn read(alloc: Global, value: &Value) -> Result<FileKind, InputError> {
         one_of(alloc, value, &FILE_KINDS)
     }
 }
 
+#[tactic(auto, unfolding(crate::specs::Words::file_kind_text))]
 impl Plain for FileKind {
     fn plain(token: Token<'_>) -> Option<FileKind> {
         plain_word(token, &FILE_KINDS)
@@ -103,7 +107,7 @@ impl Plain for FileKind {
 }
 
 impl Streamed for FileKind {
-    ghost streamed = { one_of file_kind_text all_file_kinds };
+    ghost streamed = { one_of file_kinds };
 
     fn stream(
         alloc: Global,

@@ -1,8 +1,9 @@
 //! The options from JSON.
 
-ghost use Rattle.lk_input.specs.ReadingOptions.{option_key_text, output_text, all_outputs, discard_text};
-ghost use Rattle.lk_input.specs.ReadingOptions.{all_discards, names_of, options_of};
+ghost use Rattle.lk_input.specs.ReadingOptions.{outputs, discards, names_of, options_of};
 ghost use Rattle.lk_input.specs.ReadingSteps.{one_of};
+ghost use Rattle.lk_input.specs.Keys.{option_key_text};
+ghost use Rattle.lk_input.specs.Words.{output_text, discard_text};
 
 use crate::read::described::{Described, one_of};
 use crate::read::error::InputError;
@@ -21,7 +22,7 @@ pub(crate) const BUCKET_LIMIT: u64 = 268_435_456;
 pub(crate) const MERGE_GROUP: u64 = 140_000;
 
 /// A key of the options.
-#[derive(Clone, Copy, Debug, PartialEq, Eq)]
+#[derive(Clone, Copy)]
 pub(crate) enum OptionKey {
     Output,
     Gc,
@@ -42,7 +43,7 @@ pub(crate) enum OptionKey {
     MergeGroup,
 }
 
-#[tactic(auto, unfolding(crate::specs::ReadingOptions::option_key_text))]
+#[tactic(auto, unfolding(crate::specs::ReadingSteps::written))]
 impl Word for OptionKey {
     ghost spelling = { option_key_text };
 
@@ -69,7 +70,7 @@ impl Word for OptionKey {
     }
 }
 
-#[tactic(auto, unfolding(crate::specs::ReadingOptions::output_text))]
+#[tactic(auto, unfolding(crate::specs::Words::output_text, crate::specs::ReadingSteps::written))]
 impl Word for OutputKind {
     ghost spelling = { output_text };
 
@@ -83,8 +84,9 @@ impl Word for OutputKind {
     }
 }
 
+#[tactic(auto, unfolding(crate::specs::Words::output_text))]
 impl Described for OutputKind {
-    ghost described = { one_of output_text all_outputs };
+    ghost described = { one_of outputs };
 
     fn read(alloc: Global, value: &Value) -> Result<OutputKind, InputError> {
         one_of(
@@ -100,7 +102,7 @@ impl Described for OutputKind {
     }
 }
 
-#[tactic(auto, unfolding(crate::specs::ReadingOptions::discard_text))]
+#[tactic(auto, unfolding(crate::specs::Words::discard_text, crate::specs::ReadingSteps::written))]
 impl Word for DiscardLocals {
     ghost spelling = { discard_text };
 
@@ -113,8 +115,9 @@ impl Word for DiscardLocals {
     }
 }
 
+#[tactic(auto, unfolding(crate::specs::Words::discard_text))]
 impl Described for DiscardLocals {
-    ghost described = { one_of discard_text all_discards };
+    ghost described = { one_of discards };
 
     fn read(alloc: Global, value: &Value) -> Result<DiscardLocals, InputError> {
         one_of(

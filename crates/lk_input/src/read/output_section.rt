@@ -1,7 +1,9 @@
 //! Output sections from JSON.
 
-ghost use Rattle.lk_input.specs.ReadingOutputSections.{output_section_key_text, emit_text, all_emits, plan_part_of, plan_section_of};
+ghost use Rattle.lk_input.specs.ReadingOutputSections.{emits, plan_part_of, plan_section_of};
 ghost use Rattle.lk_input.specs.ReadingSteps.{one_of};
+ghost use Rattle.lk_input.specs.Keys.{output_section_key_text};
+ghost use Rattle.lk_input.specs.Words.{emit_text};
 
 use crate::read::described::{Described, one_of};
 use crate::read::error::InputError;
@@ -14,7 +16,7 @@ use serde_json::Value;
 use std::alloc::Global;
 
 /// A key of an output section.
-#[derive(Clone, Copy, Debug, PartialEq, Eq)]
+#[derive(Clone, Copy)]
 pub(crate) enum OutputSectionKey {
     Name,
     Attrs,
@@ -28,7 +30,7 @@ pub(crate) enum OutputSectionKey {
     Counters,
 }
 
-#[tactic(auto, unfolding(crate::specs::ReadingOutputSections::output_section_key_text))]
+#[tactic(auto, unfolding(crate::specs::ReadingSteps::written))]
 impl Word for OutputSectionKey {
     ghost spelling = { output_section_key_text };
 
@@ -48,7 +50,7 @@ impl Word for OutputSectionKey {
     }
 }
 
-#[tactic(auto, unfolding(crate::specs::ReadingOutputSections::emit_text))]
+#[tactic(auto, unfolding(crate::specs::Words::emit_text, crate::specs::ReadingSteps::written))]
 impl Word for Emit {
     ghost spelling = { emit_text };
 
@@ -61,8 +63,9 @@ impl Word for Emit {
     }
 }
 
+#[tactic(auto, unfolding(crate::specs::Words::emit_text))]
 impl Described for Emit {
-    ghost described = { one_of emit_text all_emits };
+    ghost described = { one_of emits };
 
     fn read(alloc: Global, value: &Value) -> Result<Emit, InputError> {
         one_of(alloc, value, &[Emit::Auto, Emit::Always, Emit::Never])

@@ -4,7 +4,7 @@ ghost use Rattle.std.specs.Prelude.{◌≡◌};
 ghost use Rattle.json.specs.Json.{parse_map};
 ghost use Rattle.lk_input.specs.Plain.{placed_behind, placement_elements};
 ghost use Rattle.lk_input.specs.ReadingSteps.{one_of};
-ghost use Rattle.lk_input.specs.ReadingSymbols.{all_placements, placement_text, symbol_placement_of};
+ghost use Rattle.lk_input.specs.ReadingSymbols.{placements, symbol_placement_of};
 ghost use Rattle.lk_pieces.specs.Tokens.{items_at};
 ghost use Rattle.lk_input.specs.Tokens.{Stands, as_is};
 
@@ -22,6 +22,7 @@ use lk_link::text::Text;
 use serde_json::Value;
 use std::alloc::Global;
 
+#[tactic(auto, unfolding(crate::specs::Words::placement_text))]
 impl Plain for PlacementForm {
     fn plain(token: Token<'_>) -> Option<PlacementForm> {
         plain_word(token, &PLACEMENTS)
@@ -29,7 +30,7 @@ impl Plain for PlacementForm {
 }
 
 impl Streamed for PlacementForm {
-    ghost streamed = { one_of placement_text all_placements };
+    ghost streamed = { one_of placements };
 
     fn stream(
         alloc: Global,

@@ -6,6 +6,7 @@ ghost use Rattle.json.specs.Json.{parse_map};
 ghost use Rattle.json.specs.Reads.{token_of};
 ghost use Rattle.lk_input.specs.Plain.{IsPlain};
 ghost use Rattle.lk_input.specs.ReadingSteps.{index_of, number_of, one_of, signed_of, text_of, truth_of};
+ghost use Rattle.lk_input.specs.Words.{spelled};
 ghost use Rattle.lk_pieces.specs.Tokens.{data_at};
 ghost use Rattle.lk_input.specs.Tokens.{Stands, as_is};
 
@@ -62,7 +63,7 @@ pub(crate) fn described_from<T: Described>(
 
 /// The word that a token writes, if it is one of these.
 pub(crate) fn plain_word<W: Word>(token: Token<'_>, words: &[W]) -> Option<W>
-    ensures { IfSome result (λ x. IsPlain (one_of W.spelling words.now) (token_of token.entry) x) }
+    ensures { IfSome result (λ x. IsPlain (one_of (spelled W.spelling words.now)) (token_of token.entry) x) }
 {
     match token {
         Token::String(text) => word_of(text, words),

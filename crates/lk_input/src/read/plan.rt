@@ -1,6 +1,7 @@
 //! The plan from JSON.
 
-ghost use Rattle.lk_input.specs.ReadingPlan.{plan_key_text, named_parts_of, plan_of};
+ghost use Rattle.lk_input.specs.ReadingPlan.{named_parts_of, plan_of};
+ghost use Rattle.lk_input.specs.Keys.{plan_key_text};
 
 use crate::read::described::Described;
 use crate::read::error::InputError;
@@ -13,7 +14,7 @@ use serde_json::Value;
 use std::alloc::Global;
 
 /// A key of the plan.
-#[derive(Clone, Copy, Debug, PartialEq, Eq)]
+#[derive(Clone, Copy)]
 pub(crate) enum PlanKey {
     Page,
     Base,
@@ -40,7 +41,7 @@ pub(crate) enum PlanKey {
     Singletons,
 }
 
-#[tactic(auto, unfolding(crate::specs::ReadingPlan::plan_key_text))]
+#[tactic(auto, unfolding(crate::specs::ReadingSteps::written))]
 impl Word for PlanKey {
     ghost spelling = { plan_key_text };
 

@@ -1,8 +1,9 @@
 //! Relocations and relaxation candidates from JSON.
 
 ghost use Rattle.std.specs.Prelude.{◌≡◌};
-ghost use Rattle.lk_input.specs.ReadingRelocations.{entry_kind_text, kind_text, all_kinds, relocation_of, relax_candidate_of};
+ghost use Rattle.lk_input.specs.ReadingRelocations.{kinds, relocation_of, relax_candidate_of};
 ghost use Rattle.lk_input.specs.ReadingSteps.{one_of};
+ghost use Rattle.lk_input.specs.Words.{entry_kind_text, kind_text};
 
 use crate::read::described::{Described, one_of};
 use crate::read::error::InputError;
@@ -18,7 +19,7 @@ use serde_json::Value;
 use std::alloc::Global;
 
 /// A kind is written as its name.
-#[tactic(auto, unfolding(crate::specs::ReadingRelocations::kind_text))]
+#[tactic(auto, unfolding(crate::specs::Words::kind_text, crate::specs::ReadingSteps::written))]
 impl Word for RelocationKind {
     ghost spelling = { kind_text };
 
@@ -51,7 +52,7 @@ impl Word for RelocationKind {
 }
 
 /// How a kind is written that goes by a table or by thread-local data; nothing for others.
-#[tactic(auto, unfolding(crate::specs::ReadingRelocations::entry_kind_text))]
+#[tactic(auto, unfolding(crate::specs::Words::entry_kind_text, crate::specs::ReadingSteps::written))]
 fn entry_kind_text(kind: RelocationKind) -> &'static str
     ensures { result.now ≡ entry_kind_text kind }
 {
@@ -127,14 +128,16 @@ const KINDS: [RelocationKind; 42] = [
     RelocationKind::MachoAddition,
 ];
 
+#[tactic(auto, unfolding(crate::specs::Words::kind_text, crate::specs::Words::entry_kind_text))]
 impl Described for RelocationKind {
-    ghost described = { one_of kind_text all_kinds };
+    ghost described = { one_of kinds };
 
     fn read(alloc: Global, value: &Value) -> Result<RelocationKind, InputError> {
         one_of(alloc, value, &KINDS)
     }
 }
 
+#[tactic(auto, unfolding(crate::specs::Words::kind_text, crate::specs::Words::entry_kind_text))]
 impl Plain for RelocationKind {
     fn plain(token: Token<'_>) -> Option<RelocationKind> {
         plain_word(token, &KINDS)
@@ -142,7 +145,7 @@ impl Plain for RelocationKind {
 }
 
 impl Streamed for RelocationKind {
-    ghost streamed = { one_of kind_text all_kinds };
+    ghost streamed = { one_of kinds };
 
     fn stream(
         alloc: Global,

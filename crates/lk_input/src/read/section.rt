@@ -6,11 +6,13 @@ ghost use Rattle.json.specs.Json.{parse_map};
 ghost use Rattle.json.specs.Reads.{token_of};
 ghost use Rattle.hex.specs.Hex.{decode_of};
 ghost use Rattle.lk_input.specs.KnownSections.{section_from, section_kept};
-ghost use Rattle.lk_input.specs.ReadingSections.{input_section_key_text, slot_text, all_slots, hex_bytes};
+ghost use Rattle.lk_input.specs.ReadingSections.{slots, hex_bytes};
 ghost use Rattle.lk_input.specs.ReadingSections.{size_in, input_section_of, input_sections_of};
 ghost use Rattle.lk_input.specs.ReadingSteps.{Reads, one_of, wanted};
 ghost use Rattle.lk_pieces.specs.Tokens.{data_at};
 ghost use Rattle.lk_input.specs.Tokens.{Stands, as_is};
+ghost use Rattle.lk_input.specs.Keys.{input_section_key_text};
+ghost use Rattle.lk_input.specs.Words.{slot_text};
 
 use crate::read::described::{Described, one_of, wanted};
 use crate::read::error::InputError;
@@ -35,7 +37,7 @@ use std::alloc::Global;
 use std::marker::Model;
 
 /// A key of an input section.
-#[derive(Clone, Copy, Debug, PartialEq, Eq)]
+#[derive(Clone, Copy)]
 pub(crate) enum InputSectionKey {
     Name,
     Slot,
@@ -50,7 +52,7 @@ pub(crate) enum InputSectionKey {
     Relax,
 }
 
-#[tactic(auto, unfolding(crate::specs::ReadingSections::input_section_key_text))]
+#[tactic(auto, unfolding(crate::specs::ReadingSteps::written))]
 impl Word for InputSectionKey {
     ghost spelling = { input_section_key_text };
 
@@ -71,7 +73,7 @@ impl Word for InputSectionKey {
     }
 }
 
-#[tactic(auto, unfolding(crate::specs::ReadingSections::slot_text))]
+#[tactic(auto, unfolding(crate::specs::Words::slot_text, crate::specs::ReadingSteps::written))]
 impl Word for InputSlot {
     ghost spelling = { slot_text };
 
@@ -97,14 +99,16 @@ const SLOTS: [InputSlot; 6] = [
     InputSlot::Merge,
 ];
 
+#[tactic(auto, unfolding(crate::specs::Words::slot_text))]
 impl Described for InputSlot {
-    ghost described = { one_of slot_text all_slots };
+    ghost described = { one_of slots };
 
     fn read(alloc: Global, value: &Value) -> Result<InputSlot, InputError> {
         one_of(alloc, value, &SLOTS)
     }
 }
 
+#[tactic(auto, unfolding(crate::specs::Words::slot_text))]
 impl Plain for InputSlot {
     fn plain(token: Token<'_>) -> Option<InputSlot> {
         plain_word(token, &SLOTS)
@@ -112,7 +116,7 @@ impl Plain for InputSlot {
 }
 
 impl Streamed for InputSlot {
-    ghost streamed = { one_of slot_text all_slots };
+    ghost streamed = { one_of slots };
 
     fn stream(
         alloc: Global,

@@ -1,8 +1,9 @@
 //! Segments and memory regions from JSON.
 
-ghost use Rattle.lk_input.specs.ReadingSegments.{segment_key_text, segment_kind_text, all_segment_kinds};
-ghost use Rattle.lk_input.specs.ReadingSegments.{plan_segment_of, region_key_text, region_of};
+ghost use Rattle.lk_input.specs.ReadingSegments.{segment_kinds, plan_segment_of, region_of};
 ghost use Rattle.lk_input.specs.ReadingSteps.{one_of};
+ghost use Rattle.lk_input.specs.Keys.{segment_key_text, region_key_text};
+ghost use Rattle.lk_input.specs.Words.{segment_kind_text};
 
 use crate::read::described::{Described, one_of};
 use crate::read::error::InputError;
@@ -14,13 +15,13 @@ use serde_json::Value;
 use std::alloc::Global;
 
 /// A key of a segment.
-#[derive(Clone, Copy, Debug, PartialEq, Eq)]
+#[derive(Clone, Copy)]
 pub(crate) enum SegmentKey {
     Kind,
     Always,
 }
 
-#[tactic(auto, unfolding(crate::specs::ReadingSegments::segment_key_text))]
+#[tactic(auto, unfolding(crate::specs::ReadingSteps::written))]
 impl Word for SegmentKey {
     ghost spelling = { segment_key_text };
 
@@ -32,7 +33,7 @@ impl Word for SegmentKey {
     }
 }
 
-#[tactic(auto, unfolding(crate::specs::ReadingSegments::segment_kind_text))]
+#[tactic(auto, unfolding(crate::specs::Words::segment_kind_text, crate::specs::ReadingSteps::written))]
 impl Word for SegmentKind {
     ghost spelling = { segment_kind_text };
 
@@ -46,8 +47,9 @@ impl Word for SegmentKind {
     }
 }
 
+#[tactic(auto, unfolding(crate::specs::Words::segment_kind_text))]
 impl Described for SegmentKind {
-    ghost described = { one_of segment_kind_text all_segment_kinds };
+    ghost described = { one_of segment_kinds };
 
     fn read(alloc: Global, value: &Value) -> Result<SegmentKind, InputError> {
         one_of(
@@ -76,14 +78,14 @@ impl Described for PlanSegment {
 }
 
 /// A key of a memory region.
-#[derive(Clone, Copy, Debug, PartialEq, Eq)]
+#[derive(Clone, Copy)]
 pub(crate) enum RegionKey {
     Name,
     Origin,
     Length,
 }
 
-#[tactic(auto, unfolding(crate::specs::ReadingSegments::region_key_text))]
+#[tactic(auto, unfolding(crate::specs::ReadingSteps::written))]
 impl Word for RegionKey {
     ghost spelling = { region_key_text };
 

@@ -4,12 +4,14 @@ ghost use Rattle.std.specs.Prelude.{◌≡◌, ◌∷◌};
 ghost use Rattle.json.specs.Json.{parse_map};
 ghost use Rattle.json.specs.Reads.{token_of};
 ghost use Rattle.serde_json.specs.View.{view};
-ghost use Rattle.lk_input.specs.ReadingSymbols.{symbol_key_text, loc_text, all_locs, loc_in, symbol_loc_of, placement_text, all_placements};
+ghost use Rattle.lk_input.specs.ReadingSymbols.{locs, loc_in, symbol_loc_of, placements};
 ghost use Rattle.lk_input.specs.Known.{symbol_from, symbol_kept};
 ghost use Rattle.lk_input.specs.ReadingSymbols.{redirect_of, placement_in, symbol_placement_of, input_symbol_of};
 ghost use Rattle.lk_input.specs.ReadingSteps.{Reads, one_of};
 ghost use Rattle.lk_pieces.specs.Tokens.{data_at};
 ghost use Rattle.lk_input.specs.Tokens.{Stands, as_is};
+ghost use Rattle.lk_input.specs.Keys.{symbol_key_text};
+ghost use Rattle.lk_input.specs.Words.{loc_text, placement_text};
 
 use crate::read::described::{Described, one_of};
 use crate::read::error::InputError;
@@ -30,7 +32,7 @@ use serde_json::Value;
 use std::alloc::Global;
 
 /// What the place of the location counter begins with.
-#[derive(Clone, Copy, Debug, PartialEq, Eq)]
+#[derive(Clone, Copy)]
 pub(crate) enum LocForm {
     None,
     Start,
@@ -38,7 +40,7 @@ pub(crate) enum LocForm {
     Counter,
 }
 
-#[tactic(auto, unfolding(crate::specs::ReadingSymbols::loc_text))]
+#[tactic(auto, unfolding(crate::specs::Words::loc_text, crate::specs::ReadingSteps::written))]
 impl Word for LocForm {
     ghost spelling = { loc_text };
 
@@ -52,8 +54,9 @@ impl Word for LocForm {
     }
 }
 
+#[tactic(auto, unfolding(crate::specs::Words::loc_text))]
 impl Described for LocForm {
-    ghost described = { one_of loc_text all_locs };
+    ghost described = { one_of locs };
 
     fn read(alloc: Global, value: &Value) -> Result<LocForm, InputError> {
         one_of(
@@ -94,7 +97,7 @@ impl Described for SymbolLoc {
 }
 
 /// What a placement begins with.
-#[derive(Clone, Copy, Debug, PartialEq, Eq)]
+#[derive(Clone, Copy)]
 pub(crate) enum PlacementForm {
     Section,
     Common,
@@ -111,7 +114,7 @@ pub(crate) enum PlacementForm {
     Redirect,
 }
 
-#[tactic(auto, unfolding(crate::specs::ReadingSymbols::placement_text))]
+#[tactic(auto, unfolding(crate::specs::Words::placement_text, crate::specs::ReadingSteps::written))]
 impl Word for PlacementForm {
     ghost spelling = { placement_text };
 
@@ -151,8 +154,9 @@ pub(crate) const PLACEMENTS: [PlacementForm; 13] = [
     PlacementForm::Redirect,
 ];
 
+#[tactic(auto, unfolding(crate::specs::Words::placement_text))]
 impl Described for PlacementForm {
-    ghost described = { one_of placement_text all_placements };
+    ghost described = { one_of placements };
 
     fn read(alloc: Global, value: &Value) -> Result<PlacementForm, InputError> {
         one_of(alloc, value, &PLACEMENTS)
@@ -219,7 +223,7 @@ impl Described for SymbolPlacement {
 }
 
 /// A key of a symbol.
-#[derive(Clone, Copy, Debug, PartialEq, Eq)]
+#[derive(Clone, Copy)]
 pub(crate) enum SymbolKey {
     Name,
     At,
@@ -230,7 +234,7 @@ pub(crate) enum SymbolKey {
     Hidden,
 }
 
-#[tactic(auto, unfolding(crate::specs::ReadingSymbols::symbol_key_text))]
+#[tactic(auto, unfolding(crate::specs::ReadingSteps::written))]
 impl Word for SymbolKey {
     ghost spelling = { symbol_key_text };
 

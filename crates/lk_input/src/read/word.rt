@@ -15,7 +15,7 @@ pub(crate) trait Word: Copy + Drop {
 }
 
 /// A step of a path: from an object to the member with a key, or from a list to an item.
-#[derive(Clone, Copy, Debug, PartialEq, Eq)]
+#[derive(Clone, Copy)]
 pub(crate) enum Step {
     Member(&'static str),
     Item(usize),

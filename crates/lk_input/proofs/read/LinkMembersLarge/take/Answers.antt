@@ -1,9 +1,9 @@
 use Rattle.std.proofs.Common.{◌≡◌, true, false, refl, arith}
 use Rattle.std.specs.Str.{bytes_eq}
 use Rattle.lk_input.specs.declared.read.LinkKey.TheVariants as link
-use Rattle.lk_input.specs.Reading.{link_key_text}
 use Rattle.lk_input.proofs.LargeMembers.{link-groups, link-other}
 use Rattle.lk_input.proofs.read.LinkMembersLarge.take.Goals as goal
+use Rattle.lk_input.specs.Keys.{link_key_text}
 
 pub returns-in_ok-reread : goal.returns-in_ok-reread
 returns-in_ok-reread c =

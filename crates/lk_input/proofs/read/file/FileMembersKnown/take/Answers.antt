@@ -3,24 +3,25 @@ use Rattle.std.specs.Str.{bytes_eq}
 use Rattle.std.proofs.lemmas.Slice.Eq.{bytes_eq-Decides}
 use Rattle.lk_input.specs.declared.read.file.FileKey.TheVariants as key
 use Rattle.lk_input.specs.KnownFiles.{file_kept}
-use Rattle.lk_input.specs.ReadingFiles.{all_file_kinds, file_candidates_of, file_key_text, file_kind_text}
+use Rattle.lk_input.specs.ReadingFiles.{file_kinds, file_candidates_of}
 use Rattle.lk_input.specs.ReadingSections.{input_sections_of}
-use Rattle.lk_input.specs.ReadingSteps.{list_of, one_of, text_of, truth_of}
+use Rattle.lk_input.specs.ReadingSteps.{list_of, one_of, text_of, truth_of, written}
 use Rattle.lk_input.specs.ReadingSymbols.{input_symbol_of}
 use Rattle.lk_input.proofs.Known.{passed-keeps, reread-keeps}
 use Rattle.lk_input.proofs.KnownFiles.{file-put, file_put}
 use Rattle.lk_input.proofs.read.file.FileMembersKnown.take.Goals as goal
+use Rattle.lk_input.specs.Keys.{file_key_text}
 
 pub returns-then-eq : goal.returns-then-eq
-unfolding file_key_text
+unfolding written
 returns-then-eq c =
     let name = c.args.key.now in
     let same : bytes_eq name (file_key_text key.Kind) ≡ true = grind arith in
     let is : name ≡ file_key_text key.Kind = (bytes_eq-Decides name (file_key_text key.Kind)).0 same in
-    reread-keeps (one_of file_kind_text all_file_kinds) file_kept file_put file-put name c.args.depth _ _ _ _ _ _ c.reread.ensures (λ d e. rw (is, e) refl)
+    reread-keeps (one_of file_kinds) file_kept file_put file-put name c.args.depth _ _ _ _ _ _ c.reread.ensures (λ d e. rw (is, e) refl)
 
 pub returns-then-eq-2 : goal.returns-then-eq-2
-unfolding file_key_text
+unfolding written
 returns-then-eq-2 c =
     let name = c.args.key.now in
     let same : bytes_eq name (file_key_text key.Name) ≡ true = grind arith in
@@ -28,7 +29,7 @@ returns-then-eq-2 c =
     reread-keeps text_of file_kept file_put file-put name c.args.depth _ _ _ _ _ _ c.reread-then-eq-2.ensures (λ d e. rw (is, e) refl)
 
 pub returns-then-eq-3 : goal.returns-then-eq-3
-unfolding file_key_text
+unfolding written
 returns-then-eq-3 c =
     let name = c.args.key.now in
     let same : bytes_eq name (file_key_text key.Symbols) ≡ true = grind arith in
@@ -36,7 +37,7 @@ returns-then-eq-3 c =
     reread-keeps (list_of input_symbol_of) file_kept file_put file-put name c.args.depth _ _ _ _ _ _ c.reread-then-eq-3.ensures (λ d e. rw (is, e) refl)
 
 pub returns-then-eq-4 : goal.returns-then-eq-4
-unfolding file_key_text
+unfolding written
 returns-then-eq-4 c =
     let name = c.args.key.now in
     let same : bytes_eq name (file_key_text key.Sections) ≡ true = grind arith in
@@ -44,7 +45,7 @@ returns-then-eq-4 c =
     reread-keeps input_sections_of file_kept file_put file-put name c.args.depth _ _ _ _ _ _ c.reread-then-eq-4.ensures (λ d e. rw (is, e) refl)
 
 pub returns-then-eq-5 : goal.returns-then-eq-5
-unfolding file_key_text
+unfolding written
 returns-then-eq-5 c =
     let name = c.args.key.now in
     let same : bytes_eq name (file_key_text key.Archive) ≡ true = grind arith in
@@ -52,7 +53,7 @@ returns-then-eq-5 c =
     reread-keeps truth_of file_kept file_put file-put name c.args.depth _ _ _ _ _ _ c.reread-then-eq-5.ensures (λ d e. rw (is, e) refl)
 
 pub returns-then-eq-6 : goal.returns-then-eq-6
-unfolding file_key_text
+unfolding written
 returns-then-eq-6 c =
     let name = c.args.key.now in
     let same : bytes_eq name (file_key_text key.Export) ≡ true = grind arith in
@@ -60,7 +61,7 @@ returns-then-eq-6 c =
     reread-keeps truth_of file_kept file_put file-put name c.args.depth _ _ _ _ _ _ c.reread-then-eq-6.ensures (λ d e. rw (is, e) refl)
 
 pub returns-then-eq-7 : goal.returns-then-eq-7
-unfolding file_key_text
+unfolding written
 returns-then-eq-7 c =
     let name = c.args.key.now in
     let same : bytes_eq name (file_key_text key.Check) ≡ true = grind arith in
@@ -68,7 +69,7 @@ returns-then-eq-7 c =
     reread-keeps truth_of file_kept file_put file-put name c.args.depth _ _ _ _ _ _ c.reread-then-eq-7.ensures (λ d e. rw (is, e) refl)
 
 pub returns-then-eq-8 : goal.returns-then-eq-8
-unfolding file_key_text
+unfolding written
 returns-then-eq-8 c =
     let name = c.args.key.now in
     let same : bytes_eq name (file_key_text key.Candidates) ≡ true = grind arith in
@@ -76,7 +77,7 @@ returns-then-eq-8 c =
     reread-keeps file_candidates_of file_kept file_put file-put name c.args.depth _ _ _ _ _ _ c.reread-then-eq-8.ensures (λ d e. rw (is, e) refl)
 
 pub returns-else-eq-8 : goal.returns-else-eq-8
-unfolding file_key_text
+unfolding written
 returns-else-eq-8 c =
     let name = c.args.key.now in
     let no_kind : bytes_eq name (file_key_text key.Kind) ≡ false = grind arith in

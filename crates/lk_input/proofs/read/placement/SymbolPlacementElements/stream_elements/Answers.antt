@@ -3,7 +3,7 @@ use Rattle.std.specs.Fmt.{decimal}
 use Rattle.json.specs.Json.{parse_map, after_end_array}
 use Rattle.lk_input.specs.Plain.{placed_behind, placement_elements}
 use Rattle.lk_input.specs.ReadingSteps.{one_of}
-use Rattle.lk_input.specs.ReadingSymbols.{all_placements, placement_text}
+use Rattle.lk_input.specs.ReadingSymbols.{placements}
 use Rattle.lk_pieces.specs.Tokens.{data_at, items_at}
 use Rattle.lk_input.specs.Tokens.{anything}
 use Rattle.lk_input.proofs.Lists.{list-none, list-over, list-passed, made, made-none}
@@ -16,11 +16,11 @@ returns-then-take_end_array c =
     let r = c.take_end_array.new.self in
     let seen : 47 ∷ decimal c.args.index ++ [] ≡ c.in_ok-path_below.field-0 = search rules in
     list-over (placement_elements c.args.index) c.args.depth c.args.reader.now r (grind arith)
-    ∙ ap (λ y. Some (y, r)) (led-missing (one_of placement_text all_placements) placed_behind c.args.index ∙ ap Err seen)
+    ∙ ap (λ y. Some (y, r)) (led-missing (one_of placements) placed_behind c.args.index ∙ ap Err seen)
 
 pub returns-in_err-form : goal.returns-in_err-form
 returns-in_err-form c =
-    let f = one_of placement_text all_placements in
+    let f = one_of placements in
     let ts = c.args.reader.now in
     let gone : c.from_residual-in_err-form.result ≡ Err c.in_err-form.field-0.0 = grind arith in
     let going : (after_end_array ts ≡ None) × (c.take_end_array.new.self ≡ ts) = grind arith in
@@ -29,7 +29,7 @@ returns-in_err-form c =
 
 pub returns-in-Ok : goal.returns-in-Ok
 returns-in-Ok c =
-    let f = one_of placement_text all_placements in
+    let f = one_of placements in
     let i = c.args.index in
     let ts = c.args.reader.now in
     let r = c.stream.new.reader in
@@ -41,7 +41,7 @@ returns-in-Ok c =
 
 pub returns-in_err-pass_others-in-Err : goal.returns-in_err-pass_others-in-Err
 returns-in_err-pass_others-in-Err c =
-    let f = one_of placement_text all_placements in
+    let f = one_of placements in
     let i = c.args.index in
     let ts = c.args.reader.now in
     let r = c.stream.new.reader in
@@ -54,7 +54,7 @@ returns-in_err-pass_others-in-Err c =
 
 pub returns-in_ok-pass_others-in-Err : goal.returns-in_ok-pass_others-in-Err
 returns-in_ok-pass_others-in-Err c =
-    let f = one_of placement_text all_placements in
+    let f = one_of placements in
     let i = c.args.index in
     let ts = c.args.reader.now in
     let r = c.stream.new.reader in

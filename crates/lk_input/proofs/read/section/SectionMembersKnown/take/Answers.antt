@@ -4,14 +4,15 @@ use Rattle.std.proofs.lemmas.Slice.Eq.{bytes_eq-Decides}
 use Rattle.lk_input.specs.declared.read.section.InputSectionKey.TheVariants as key
 use Rattle.lk_input.specs.KnownSections.{section_kept}
 use Rattle.lk_input.specs.ReadingRelocations.{relax_candidate_of, relocation_of}
-use Rattle.lk_input.specs.ReadingSections.{all_slots, hex_bytes, input_section_key_text, slot_text}
-use Rattle.lk_input.specs.ReadingSteps.{index_of, list_of, number_of, one_of, text_of, truth_of}
+use Rattle.lk_input.specs.ReadingSections.{slots, hex_bytes}
+use Rattle.lk_input.specs.ReadingSteps.{index_of, list_of, number_of, one_of, text_of, truth_of, written}
 use Rattle.lk_input.proofs.Known.{passed-keeps, reread-keeps}
 use Rattle.lk_input.proofs.KnownSections.{section-put, section_put}
 use Rattle.lk_input.proofs.read.section.SectionMembersKnown.take.Goals as goal
+use Rattle.lk_input.specs.Keys.{input_section_key_text}
 
 pub returns-then-eq : goal.returns-then-eq
-unfolding input_section_key_text
+unfolding written
 returns-then-eq c =
     let name = c.args.key.now in
     let same : bytes_eq name (input_section_key_text key.Name) ≡ true = grind arith in
@@ -19,15 +20,15 @@ returns-then-eq c =
     reread-keeps text_of section_kept section_put section-put name c.args.depth _ _ _ _ _ _ c.reread.ensures (λ d e. rw (is, e) refl)
 
 pub returns-then-eq-2 : goal.returns-then-eq-2
-unfolding input_section_key_text
+unfolding written
 returns-then-eq-2 c =
     let name = c.args.key.now in
     let same : bytes_eq name (input_section_key_text key.Slot) ≡ true = grind arith in
     let is : name ≡ input_section_key_text key.Slot = (bytes_eq-Decides name (input_section_key_text key.Slot)).0 same in
-    reread-keeps (one_of slot_text all_slots) section_kept section_put section-put name c.args.depth _ _ _ _ _ _ c.reread-then-eq-2.ensures (λ d e. rw (is, e) refl)
+    reread-keeps (one_of slots) section_kept section_put section-put name c.args.depth _ _ _ _ _ _ c.reread-then-eq-2.ensures (λ d e. rw (is, e) refl)
 
 pub returns-then-eq-3 : goal.returns-then-eq-3
-unfolding input_section_key_text
+unfolding written
 returns-then-eq-3 c =
     let name = c.args.key.now in
     let same : bytes_eq name (input_section_key_text key.Part) ≡ true = grind arith in
@@ -35,7 +36,7 @@ returns-then-eq-3 c =
     reread-keeps index_of section_kept section_put section-put name c.args.depth _ _ _ _ _ _ c.reread-then-eq-3.ensures (λ d e. rw (is, e) refl)
 
 pub returns-then-eq-4 : goal.returns-then-eq-4
-unfolding input_section_key_text
+unfolding written
 returns-then-eq-4 c =
     let name = c.args.key.now in
     let same : bytes_eq name (input_section_key_text key.Size) ≡ true = grind arith in
@@ -43,7 +44,7 @@ returns-then-eq-4 c =
     reread-keeps number_of section_kept section_put section-put name c.args.depth _ _ _ _ _ _ c.reread-then-eq-4.ensures (λ d e. rw (is, e) refl)
 
 pub returns-then-eq-5 : goal.returns-then-eq-5
-unfolding input_section_key_text
+unfolding written
 returns-then-eq-5 c =
     let name = c.args.key.now in
     let same : bytes_eq name (input_section_key_text key.Data) ≡ true = grind arith in
@@ -51,7 +52,7 @@ returns-then-eq-5 c =
     reread-keeps hex_bytes section_kept section_put section-put name c.args.depth _ _ _ _ _ _ c.reread-then-eq-5.ensures (λ d e. rw (is, e) refl)
 
 pub returns-then-eq-6 : goal.returns-then-eq-6
-unfolding input_section_key_text
+unfolding written
 returns-then-eq-6 c =
     let name = c.args.key.now in
     let same : bytes_eq name (input_section_key_text key.Strings) ≡ true = grind arith in
@@ -59,7 +60,7 @@ returns-then-eq-6 c =
     reread-keeps truth_of section_kept section_put section-put name c.args.depth _ _ _ _ _ _ c.reread-then-eq-6.ensures (λ d e. rw (is, e) refl)
 
 pub returns-then-eq-7 : goal.returns-then-eq-7
-unfolding input_section_key_text
+unfolding written
 returns-then-eq-7 c =
     let name = c.args.key.now in
     let same : bytes_eq name (input_section_key_text key.Sorted) ≡ true = grind arith in
@@ -67,7 +68,7 @@ returns-then-eq-7 c =
     reread-keeps truth_of section_kept section_put section-put name c.args.depth _ _ _ _ _ _ c.reread-then-eq-7.ensures (λ d e. rw (is, e) refl)
 
 pub returns-then-eq-8 : goal.returns-then-eq-8
-unfolding input_section_key_text
+unfolding written
 returns-then-eq-8 c =
     let name = c.args.key.now in
     let same : bytes_eq name (input_section_key_text key.Attrs) ≡ true = grind arith in
@@ -75,7 +76,7 @@ returns-then-eq-8 c =
     reread-keeps index_of section_kept section_put section-put name c.args.depth _ _ _ _ _ _ c.reread-then-eq-8.ensures (λ d e. rw (is, e) refl)
 
 pub returns-then-eq-9 : goal.returns-then-eq-9
-unfolding input_section_key_text
+unfolding written
 returns-then-eq-9 c =
     let name = c.args.key.now in
     let same : bytes_eq name (input_section_key_text key.Group) ≡ true = grind arith in
@@ -83,7 +84,7 @@ returns-then-eq-9 c =
     reread-keeps index_of section_kept section_put section-put name c.args.depth _ _ _ _ _ _ c.reread-then-eq-9.ensures (λ d e. rw (is, e) refl)
 
 pub returns-then-eq-10 : goal.returns-then-eq-10
-unfolding input_section_key_text
+unfolding written
 returns-then-eq-10 c =
     let name = c.args.key.now in
     let same : bytes_eq name (input_section_key_text key.Relocs) ≡ true = grind arith in
@@ -91,7 +92,7 @@ returns-then-eq-10 c =
     reread-keeps (list_of relocation_of) section_kept section_put section-put name c.args.depth _ _ _ _ _ _ c.reread-then-eq-10.ensures (λ d e. rw (is, e) refl)
 
 pub returns-then-eq-11 : goal.returns-then-eq-11
-unfolding input_section_key_text
+unfolding written
 returns-then-eq-11 c =
     let name = c.args.key.now in
     let same : bytes_eq name (input_section_key_text key.Relax) ≡ true = grind arith in
@@ -99,7 +100,7 @@ returns-then-eq-11 c =
     reread-keeps (list_of relax_candidate_of) section_kept section_put section-put name c.args.depth _ _ _ _ _ _ c.reread-then-eq-11.ensures (λ d e. rw (is, e) refl)
 
 pub returns-else-eq-11 : goal.returns-else-eq-11
-unfolding input_section_key_text
+unfolding written
 returns-else-eq-11 c =
     let name = c.args.key.now in
     let no_name : bytes_eq name (input_section_key_text key.Name) ≡ false = grind arith in

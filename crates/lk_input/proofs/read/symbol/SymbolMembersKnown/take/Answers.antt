@@ -3,13 +3,14 @@ use Rattle.std.specs.Str.{bytes_eq}
 use Rattle.std.proofs.lemmas.Slice.Eq.{bytes_eq-Decides}
 use Rattle.lk_input.specs.declared.read.symbol.SymbolKey.TheVariants as key
 use Rattle.lk_input.specs.Known.{symbol_kept}
-use Rattle.lk_input.specs.ReadingSteps.{index_of, text_of, truth_of}
-use Rattle.lk_input.specs.ReadingSymbols.{symbol_key_text, symbol_placement_of}
+use Rattle.lk_input.specs.ReadingSteps.{index_of, text_of, truth_of, written}
+use Rattle.lk_input.specs.ReadingSymbols.{symbol_placement_of}
 use Rattle.lk_input.proofs.Known.{passed-keeps, reread-keeps, symbol-put, symbol_put}
 use Rattle.lk_input.proofs.read.symbol.SymbolMembersKnown.take.Goals as goal
+use Rattle.lk_input.specs.Keys.{symbol_key_text}
 
 pub returns-then-eq : goal.returns-then-eq
-unfolding symbol_key_text
+unfolding written
 returns-then-eq c =
     let name = c.args.key.now in
     let same : bytes_eq name (symbol_key_text key.Name) ≡ true = grind arith in
@@ -17,7 +18,7 @@ returns-then-eq c =
     reread-keeps text_of symbol_kept symbol_put symbol-put name c.args.depth _ _ _ _ _ _ c.reread.ensures (λ d e. rw (is, e) refl)
 
 pub returns-then-eq-2 : goal.returns-then-eq-2
-unfolding symbol_key_text
+unfolding written
 returns-then-eq-2 c =
     let name = c.args.key.now in
     let same : bytes_eq name (symbol_key_text key.At) ≡ true = grind arith in
@@ -25,7 +26,7 @@ returns-then-eq-2 c =
     reread-keeps symbol_placement_of symbol_kept symbol_put symbol-put name c.args.depth _ _ _ _ _ _ c.reread-then-eq-2.ensures (λ d e. rw (is, e) refl)
 
 pub returns-then-eq-3 : goal.returns-then-eq-3
-unfolding symbol_key_text
+unfolding written
 returns-then-eq-3 c =
     let name = c.args.key.now in
     let same : bytes_eq name (symbol_key_text key.Def) ≡ true = grind arith in
@@ -33,7 +34,7 @@ returns-then-eq-3 c =
     reread-keeps index_of symbol_kept symbol_put symbol-put name c.args.depth _ _ _ _ _ _ c.reread-then-eq-3.ensures (λ d e. rw (is, e) refl)
 
 pub returns-then-eq-4 : goal.returns-then-eq-4
-unfolding symbol_key_text
+unfolding written
 returns-then-eq-4 c =
     let name = c.args.key.now in
     let same : bytes_eq name (symbol_key_text key.Flags) ≡ true = grind arith in
@@ -41,7 +42,7 @@ returns-then-eq-4 c =
     reread-keeps index_of symbol_kept symbol_put symbol-put name c.args.depth _ _ _ _ _ _ c.reread-then-eq-4.ensures (λ d e. rw (is, e) refl)
 
 pub returns-then-eq-5 : goal.returns-then-eq-5
-unfolding symbol_key_text
+unfolding written
 returns-then-eq-5 c =
     let name = c.args.key.now in
     let same : bytes_eq name (symbol_key_text key.Local) ≡ true = grind arith in
@@ -49,7 +50,7 @@ returns-then-eq-5 c =
     reread-keeps truth_of symbol_kept symbol_put symbol-put name c.args.depth _ _ _ _ _ _ c.reread-then-eq-5.ensures (λ d e. rw (is, e) refl)
 
 pub returns-then-eq-6 : goal.returns-then-eq-6
-unfolding symbol_key_text
+unfolding written
 returns-then-eq-6 c =
     let name = c.args.key.now in
     let same : bytes_eq name (symbol_key_text key.Weak) ≡ true = grind arith in
@@ -57,7 +58,7 @@ returns-then-eq-6 c =
     reread-keeps truth_of symbol_kept symbol_put symbol-put name c.args.depth _ _ _ _ _ _ c.reread-then-eq-6.ensures (λ d e. rw (is, e) refl)
 
 pub returns-then-eq-7 : goal.returns-then-eq-7
-unfolding symbol_key_text
+unfolding written
 returns-then-eq-7 c =
     let name = c.args.key.now in
     let same : bytes_eq name (symbol_key_text key.Hidden) ≡ true = grind arith in
@@ -65,7 +66,7 @@ returns-then-eq-7 c =
     reread-keeps truth_of symbol_kept symbol_put symbol-put name c.args.depth _ _ _ _ _ _ c.reread-then-eq-7.ensures (λ d e. rw (is, e) refl)
 
 pub returns-else-eq-7 : goal.returns-else-eq-7
-unfolding symbol_key_text
+unfolding written
 returns-else-eq-7 c =
     let name = c.args.key.now in
     let no_name : bytes_eq name (symbol_key_text key.Name) ≡ false = grind arith in
