@@ -1,4 +1,3 @@
-use Rattle.std.proofs.Common.{◌∷◌, Some}
 use Rattle.lk_map.proofs.straight.ranges_then.Goals as goal
 
 pub returns : goal.returns
