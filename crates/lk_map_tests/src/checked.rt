@@ -1,7 +1,7 @@
 //! What is told of maps.
 
-use crate::rows::expect_rows;
-use std::test::Fail;
+use crate::rows::OfMaps;
+use lk_test_rows::{Failed, expect_rows};
 
 /// Ends at 2^64 - 1 and past it.
 const ENDS: &str = "
@@ -67,16 +67,16 @@ const HELD: &str = "
 ";
 
 #[test]
-fn ends_are_below_the_last_address(rt: HostRuntime) -> Result<(), Fail> {
-    expect_rows(&rt, rt.alloc(), ENDS)
+fn ends_are_below_the_last_address(rt: HostRuntime) -> Result<(), Failed> {
+    expect_rows(&rt, rt.alloc(), &OfMaps, ENDS)
 }
 
 #[test]
-fn sections_overlap(rt: HostRuntime) -> Result<(), Fail> {
-    expect_rows(&rt, rt.alloc(), OVERLAPS)
+fn sections_overlap(rt: HostRuntime) -> Result<(), Failed> {
+    expect_rows(&rt, rt.alloc(), &OfMaps, OVERLAPS)
 }
 
 #[test]
-fn segments_hold_sections(rt: HostRuntime) -> Result<(), Fail> {
-    expect_rows(&rt, rt.alloc(), HELD)
+fn segments_hold_sections(rt: HostRuntime) -> Result<(), Failed> {
+    expect_rows(&rt, rt.alloc(), &OfMaps, HELD)
 }

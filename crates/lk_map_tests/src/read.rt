@@ -1,7 +1,7 @@
 //! Which texts are maps.
 
-use crate::rows::expect_rows;
-use std::test::Fail;
+use crate::rows::OfMaps;
+use lk_test_rows::{Failed, expect_rows};
 
 /// The report as it is; texts that stop early or go on behind the end; kinds that go back, stand twice or are missing.
 const KINDS: &str = "
@@ -155,18 +155,18 @@ const ALIKE: &str = "
 ";
 
 #[test]
-fn kinds_stand_in_their_order(rt: HostRuntime) -> Result<(), Fail> {
-    expect_rows(&rt, rt.alloc(), KINDS)
+fn kinds_stand_in_their_order(rt: HostRuntime) -> Result<(), Failed> {
+    expect_rows(&rt, rt.alloc(), &OfMaps, KINDS)
 }
 
 #[test]
-fn lines_have_their_fields(rt: HostRuntime) -> Result<(), Fail> {
-    expect_rows(&rt, rt.alloc(), LINES)
+fn lines_have_their_fields(rt: HostRuntime) -> Result<(), Failed> {
+    expect_rows(&rt, rt.alloc(), &OfMaps, LINES)
 }
 
 #[test]
-fn numbers_are_as_they_are_written(rt: HostRuntime) -> Result<(), Fail> {
-    expect_rows(&rt, rt.alloc(), NUMBERS)
+fn numbers_are_as_they_are_written(rt: HostRuntime) -> Result<(), Failed> {
+    expect_rows(&rt, rt.alloc(), &OfMaps, NUMBERS)
 }
 
 #[test]

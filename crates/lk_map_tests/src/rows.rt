@@ -6,9 +6,8 @@
 //! the first line where no map goes on, or a fault with its lines.
 
 use lk_map::{MapError, MapFault, MapText, check_map, read_map};
+use lk_test_rows::{Asks, Line};
 use std::alloc::{AllocError, Global};
-use std::process::Abort;
-use std::test::Fail;
 
 /// The report of three sections in one segment.
 const REPORT: &str = "layout
@@ -91,56 +90,37 @@ fn changed(alloc: Global, changes: &str) -> Result<Vec<u8>, AllocError> {
 }
 
 /// Tells what a check comes to.
-fn tell_checked(
-    told: &mut String,
-    map: &MapText,
-    checked: Result<(), MapFault>,
-) -> Result<(), AllocError> {
+fn tell_checked(line: &mut Line, map: &MapText, checked: Result<(), MapFault>) {
     let sections = map.sections.len();
     let segments = map.segments.len();
     match checked {
-        Ok(()) => write!(told, "ok {sections} {segments}"),
-        Err(MapFault::Overflow { line }) => write!(told, "overflow {line}"),
-        Err(MapFault::MemOverlap { a, b }) => write!(told, "memory {a} {b}"),
-        Err(MapFault::FileOverlap { a, b }) => write!(told, "file {a} {b}"),
-        Err(MapFault::NoSegment { line }) => write!(told, "outside {line}"),
-        Err(MapFault::NoMemory) => write!(told, "no memory"),
+        Ok(()) => write!(line, "ok {sections} {segments}"),
+        Err(MapFault::Overflow { line: at }) => write!(line, "overflow {at}"),
+        Err(MapFault::MemOverlap { a, b }) => write!(line, "memory {a} {b}"),
+        Err(MapFault::FileOverlap { a, b }) => write!(line, "file {a} {b}"),
+        Err(MapFault::NoSegment { line: at }) => write!(line, "outside {at}"),
+        Err(MapFault::NoMemory) => line.run_out(),
     }
 }
 
-/// What is told of a text.
-fn answer(alloc: Global, text: &[u8]) -> Result<String, AllocError> {
-    let mut told = String::new(alloc);
+/// Tells what a text is, or where it is no map.
+fn tell_text(alloc: Global, line: &mut Line, text: &[u8]) {
     match read_map(alloc, text) {
-        Ok(map) => {
-            let checked = check_map(alloc, &map);
-            tell_checked(&mut told, &map, checked)?;
-        }
-        Err(MapError::NotMap { line }) => write!(told, "not {line}")?,
-        Err(MapError::NoMemory) => write!(told, "no memory")?,
+        Ok(map) => tell_checked(line, &map, check_map(alloc, &map)),
+        Err(MapError::NotMap { line: at }) => write!(line, "not {at}"),
+        Err(MapError::NoMemory) => line.run_out(),
     }
-    Ok(told)
 }
 
-/// Wants this of changes.
-fn expect_answer(rt: &impl Abort, changes: &str, found: &str, want: &str) {
-    assert_eq!(rt; found, want, "for {changes}");
-}
+/// What is told of maps.
+#[derive(Clone, Copy)]
+pub struct OfMaps;
 
-/// Wants a row's answer.
-fn expect_row(rt: &impl Abort, alloc: Global, changes: &str, want: &str) -> Result<(), Fail> {
-    let text = changed(alloc, changes)?;
-    let told = answer(alloc, text.as_slice())?;
-    expect_answer(rt, changes, told.as_str(), want);
-    Ok(())
-}
-
-/// Wants each row's answer.
-pub fn expect_rows(rt: &impl Abort, alloc: Global, rows: &str) -> Result<(), Fail> {
-    for row in rows.split('\n') {
-        if let Some((changes, want)) = row.split_once(" => ") {
-            expect_row(rt, alloc, changes, want)?;
+impl<R> Asks<R> for OfMaps {
+    fn tell(&self, _rt: &R, alloc: Global, line: &mut Line, changes: &str) {
+        match changed(alloc, changes) {
+            Ok(text) => tell_text(alloc, line, text.as_slice()),
+            Err(_) => line.run_out(),
         }
     }
-    Ok(())
 }
