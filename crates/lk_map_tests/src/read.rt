@@ -170,6 +170,6 @@ fn numbers_are_as_they_are_written(rt: HostRuntime) -> Result<(), Failed> {
 }
 
 #[test]
-fn lines_alike_are_read_where_they_stand(rt: HostRuntime) -> Result<(), Fail> {
-    expect_rows(&rt, rt.alloc(), ALIKE)
+fn lines_alike_are_read_where_they_stand(rt: HostRuntime) -> Result<(), Failed> {
+    expect_rows(&rt, rt.alloc(), &OfMaps, ALIKE)
 }

@@ -10,16 +10,17 @@ use Rattle.lk_explain.specs.Faults.{has_unit}
 use Rattle.lk_explain.specs.Laws.{ReachedIsShown, ShownIsOne}
 use Rattle.lk_explain.proofs.NumberLemmas.{reached_by}
 use Rattle.lk_explain.proofs.PathLemmas.{has_is_unit}
-use Rattle.lk_image.specs.declared.error.ImageError.{ImageError}
 use Rattle.lk_image.specs.Refusals.{image_refusal}
 use Rattle.lk_link.specs.declared.fault.LinkFault.{LinkFault}
 use Rattle.lk_link.specs.declared.ids.FileId.{FileId}
 use Rattle.lk_link.specs.declared.link.LinkInput.{LinkInput}
 use Rattle.lk_link.specs.WellFormed.{IsWellFormed}
+use Rattle.lk_map.specs.declared.check.MapFault.{MapFault}
 use Rattle.lk_map.specs.declared.map_text.SectionLine.{SectionLine}
 use Rattle.lk_map.specs.declared.map_text.SegmentLine.{SegmentLine}
 use Rattle.lk_map.specs.MapText.{map_of}
-use Rattle.lk_map.specs.Verdicts.{MapsAreJudged, MapsRise, VerdictsAgree}
+use Rattle.lk_map.specs.Good.{IsGood}
+use Rattle.lk_map.specs.Verdicts.{IsVerdict, MapsAreJudged, MapsRise, VerdictsAgree, VerdictsTellGood}
 use Rattle.lk_reach.specs.declared.units.Unit.{Unit as LinkUnit}
 use Rattle.lk_reach.specs.declared.units.Unit.TheVariants.{Sec}
 use Rattle.lk_reach.specs.Laws.{MarksAreReached}
@@ -35,7 +36,7 @@ use Rattle.lk_run.specs.declared.status.Status.{Status}
 use Rattle.lk_run.specs.declared.status.Status.TheVariants.{Done, Refused, Usage, Unreadable, ReadFault, WriteFault, NoMemory}
 use Rattle.lk_run.specs.declared.words.Command.{Command}
 use Rattle.lk_run.specs.declared.words.Command.TheVariants as commands
-use Rattle.lk_run.specs.Complete.{DescribesLayout, IsAnswerOver, IsFaultless, RunsTellOneAnswer, RunsTellTheAnswer, Tells}
+use Rattle.lk_run.specs.Complete.{AreGoodMap, CheckRunsAreComplete, DescribesLayout, DescribesSection, IsAnswerOver, IsFaultless, RunsTellOneAnswer, RunsTellTheAnswer, Tells, WhyRunsAreComplete}
 use Rattle.lk_devices.specs.Device.{SourceState, SinkState}
 use Rattle.lk_run.specs.FaultText.{input_fault_text_of}
 use Rattle.lk_run.specs.Run.{Held, Whole, Longer, Holds, Takes, IsAnswerOf, IsAnswerTo, IsAnswerToReading, IsAnswered, IsGeneratedAnswer, IsImageAnswer, IsLayoutAnswer, IsMapAnswer, IsSectionAnswer, IsWayAnswer, IsWhyAnswer, done, judged, refused, unreadable, Commanded, Uncommanded, Unmoved, IsDefinedFor, Finished, IsRun, TellsDefined, Unread, image_told, imaged, summed_up, told_of}
