@@ -2,15 +2,14 @@
 
 ghost use Rattle.std.specs.Prelude.{◌≡◌, IfOk};
 
-use crate::rows::{Asked, expect_rows, expect_text};
+use crate::rows::Asked;
 use lk_devices::transfer::{read_all, write_all};
 use lk_devices::{
     MemorySink, MemorySource, Sink, Source, StandardInput, StandardOutput, SureSink, SureSource,
 };
-use lk_test_rows::add;
+use lk_test_rows::{Failed, Line, expect_rows};
 use std::alloc::{AllocError, Global};
 use std::io::{Read, Write};
-use std::test::Fail;
 use std::{io, str};
 
 /// The number that a word is; 0 for other words.
@@ -61,36 +60,32 @@ const READS: &str = r#"
 "#;
 
 /// Adds what a read of eight bytes gives.
-fn add_read(line: &mut String, source: &mut MemorySource) -> Result<(), AllocError> {
+fn add_read(line: &mut Line, source: &mut MemorySource) {
     let mut buf = [b'.'; 8];
     let result = source.read(&mut buf);
-    add(line, "read", &(result, str::from_utf8(&buf)))
+    line.add("read", &(result, str::from_utf8(&buf)))
 }
 
 /// Adds what so many reads give, how many bytes are left, and how many reads failed.
-fn add_reads_of(
-    line: &mut String,
-    source: &mut MemorySource,
-    count: u64,
-) -> Result<(), AllocError> {
+fn add_reads_of(line: &mut Line, source: &mut MemorySource, count: u64) {
     for _ in 0..count {
-        add_read(line, source)?;
+        add_read(line, source);
     }
-    add(line, "left", &(source.left().len(), source.faults()))
+    line.add("left", &(source.left().len(), source.faults()))
 }
 
 /// Adds what becomes of a row.
-pub fn add_reads(alloc: Global, line: &mut String, row: &str) -> Result<(), AllocError> {
+pub fn add_reads(alloc: Global, line: &mut Line, row: &str) {
     let mut words = row.split_whitespace();
     match source_of(alloc, "abcde", words.next(), words.next()) {
         Ok(mut source) => add_reads_of(line, &mut source, number(words.next())),
-        Err(error) => Err(error),
+        Err(_) => line.run_out(),
     }
 }
 
 #[test]
-fn a_source_gives_bytes_and_fails_where_it_is_to(rt: HostRuntime) -> Result<(), Fail> {
-    expect_rows(&rt, rt.alloc(), Asked::Reads, READS)
+fn a_source_gives_bytes_and_fails_where_it_is_to(rt: HostRuntime) -> Result<(), Failed> {
+    expect_rows(&rt, rt.alloc(), &Asked::Reads, READS)
 }
 
 /// How many bytes a read gives at most, which read fails, and the most bytes that are read: what is read of five, of which
@@ -107,20 +102,20 @@ const WHOLE_INPUTS: &str = "
 ";
 
 /// Adds what becomes of a row.
-pub fn add_whole(alloc: Global, line: &mut String, row: &str) -> Result<(), AllocError> {
+pub fn add_whole(alloc: Global, line: &mut Line, row: &str) {
     let mut words = row.split_whitespace();
     match source_of(alloc, "abcde", words.next(), words.next()) {
         Ok(mut source) => {
             let result = read_all(alloc, &mut source, number(words.next()));
-            add(line, "whole", &(result, source.faults()))
+            line.add("whole", &(result, source.faults()))
         }
-        Err(error) => Err(error),
+        Err(_) => line.run_out(),
     }
 }
 
 #[test]
-fn short_reads_are_not_the_end_and_failures_are_told(rt: HostRuntime) -> Result<(), Fail> {
-    expect_rows(&rt, rt.alloc(), Asked::Whole, WHOLE_INPUTS)
+fn short_reads_are_not_the_end_and_failures_are_told(rt: HostRuntime) -> Result<(), Failed> {
+    expect_rows(&rt, rt.alloc(), &Asked::Whole, WHOLE_INPUTS)
 }
 
 /// How many bytes there are: whether they are read under a limit of as many, under the greatest, and under one less (or 0).
@@ -140,18 +135,26 @@ fn is_held(alloc: Global, length: u64, limit: u64) -> Result<bool, AllocError> {
     Ok(read_all(alloc, &mut source, limit) == Ok(text))
 }
 
-/// Adds what becomes of a row.
-pub fn add_held(alloc: Global, line: &mut String, row: &str) -> Result<(), AllocError> {
-    let length = number(Some(row));
+/// Whether so many bytes are read whole under a limit of as many, under the greatest, and under one less.
+fn are_held(alloc: Global, length: u64) -> Result<(bool, bool, bool), AllocError> {
     let exact = is_held(alloc, length, length)?;
     let greatest = is_held(alloc, length, u64::MAX)?;
     let less = is_held(alloc, length, length.saturating_sub(1))?;
-    add(line, "held", &(exact, greatest, less))
+    Ok((exact, greatest, less))
+}
+
+/// Adds what becomes of a row.
+pub fn add_held(alloc: Global, line: &mut Line, row: &str) {
+    let length = number(Some(row));
+    match are_held(alloc, length) {
+        Ok(held) => line.add("held", &held),
+        Err(_) => line.run_out(),
+    }
 }
 
 #[test]
-fn inputs_are_read_up_to_the_limit(rt: HostRuntime) -> Result<(), Fail> {
-    expect_rows(&rt, rt.alloc(), Asked::Held, HELD)
+fn inputs_are_read_up_to_the_limit(rt: HostRuntime) -> Result<(), Failed> {
+    expect_rows(&rt, rt.alloc(), &Asked::Held, HELD)
 }
 
 // Sinks
@@ -168,61 +171,47 @@ once 5 3 1 abcd e ef gh i => once Ok(3) once Err(Failed) once Ok(2) once Ok(0) o
 "#;
 
 /// Adds how the write of a piece ends.
-fn add_write(
-    line: &mut String,
-    sink: &mut MemorySink,
-    how: &str,
-    piece: &str,
-) -> Result<(), AllocError> {
+fn add_write(line: &mut Line, sink: &mut MemorySink, how: &str, piece: &str) {
     let piece = if piece == "-" { "" } else { piece };
     if how == "whole" {
-        add(line, how, &write_all(sink, piece.as_bytes()))
+        line.add(how, &write_all(sink, piece.as_bytes()))
     } else {
-        add(line, how, &sink.write(piece.as_bytes()))
+        line.add(how, &sink.write(piece.as_bytes()))
     }
 }
 
 /// Adds how the writes of the pieces of a row end, what was taken, and how many failed.
-fn add_pieces(line: &mut String, sink: &mut MemorySink, row: &str) -> Result<(), AllocError> {
+fn add_pieces(line: &mut Line, sink: &mut MemorySink, row: &str) {
     let (how, _) = row.split_once(' ').unwrap_or((row, ""));
     for piece in row.split_whitespace().skip(4) {
-        add_write(line, sink, how, piece)?;
+        add_write(line, sink, how, piece);
     }
-    add(
-        line,
-        "taken",
-        &(str::from_utf8(sink.written()), sink.faults()),
-    )
+    line.add("taken", &(str::from_utf8(sink.written()), sink.faults()))
 }
 
 /// Adds what becomes of a row.
-pub fn add_writes(alloc: Global, line: &mut String, row: &str) -> Result<(), AllocError> {
+pub fn add_writes(alloc: Global, line: &mut Line, row: &str) {
     let mut words = row.split_whitespace().skip(1);
     match sink_of(alloc, words.next(), words.next(), words.next()) {
         Ok(mut sink) => add_pieces(line, &mut sink, row),
-        Err(error) => Err(error),
+        Err(_) => line.run_out(),
     }
 }
 
 #[test]
-fn a_sink_takes_bytes_and_fails_where_it_is_to(rt: HostRuntime) -> Result<(), Fail> {
-    expect_rows(&rt, rt.alloc(), Asked::Writes, WRITES)
+fn a_sink_takes_bytes_and_fails_where_it_is_to(rt: HostRuntime) -> Result<(), Failed> {
+    expect_rows(&rt, rt.alloc(), &Asked::Writes, WRITES)
 }
 
 #[test]
-fn a_sure_sink_takes_everything(rt: HostRuntime) -> Result<(), Fail> {
-    let mut line = String::new(rt.alloc());
+fn a_sure_sink_takes_everything(rt: HostRuntime) -> Result<(), Failed> {
+    let mut line = Line::new(rt.alloc());
     let mut sink = SureSink::new();
     for piece in ["abc", "", "de"] {
-        add(&mut line, "piece", &write_all(&mut sink, piece.as_bytes()))?;
+        line.add("piece", &write_all(&mut sink, piece.as_bytes()));
     }
-    add(&mut line, "count", &sink.count())?;
-    expect_text(
-        &rt,
-        line.as_str(),
-        "piece Ok(()) piece Ok(()) piece Ok(()) count 5",
-    );
-    Ok(())
+    line.add("count", &sink.count());
+    line.expect(&rt, "all", "piece Ok(()) piece Ok(()) piece Ok(()) count 5")
 }
 
 // Readers and writers
@@ -274,23 +263,15 @@ const CALLS: &str = "
 ";
 
 /// Adds what two reads and two writes give, and how many failed.
-fn add_calls_of(
-    line: &mut String,
-    input: &mut StandardInput<Odd>,
-    output: &mut StandardOutput<Odd>,
-) -> Result<(), AllocError> {
+fn add_calls_of(line: &mut Line, input: &mut StandardInput<Odd>, output: &mut StandardOutput<Odd>) {
     for _ in 0..2 {
-        add(
-            line,
-            "call",
-            &(input.read(&mut [0u8; 4]), output.write(b"")),
-        )?;
+        line.add("call", &(input.read(&mut [0u8; 4]), output.write(b"")));
     }
-    add(line, "failed", &(input.failures(), output.failures()))
+    line.add("failed", &(input.failures(), output.failures()))
 }
 
 /// Adds what becomes of a row.
-pub fn add_calls(line: &mut String, row: &str) -> Result<(), AllocError> {
+pub fn add_calls(line: &mut Line, row: &str) {
     let (count, how) = row.split_once(' ').unwrap_or((row, ""));
     let (interrupted, fails) = (count.parse::<u32>().unwrap_or(0), how == "fails");
     let mut input = StandardInput::new(Odd { interrupted, fails });
@@ -299,34 +280,28 @@ pub fn add_calls(line: &mut String, row: &str) -> Result<(), AllocError> {
 }
 
 #[test]
-fn failures_are_counted_and_interrupted_calls_tried_again(rt: HostRuntime) -> Result<(), Fail> {
-    expect_rows(&rt, rt.alloc(), Asked::Calls, CALLS)
+fn failures_are_counted_and_interrupted_calls_tried_again(rt: HostRuntime) -> Result<(), Failed> {
+    expect_rows(&rt, rt.alloc(), &Asked::Calls, CALLS)
 }
 
 #[test]
-fn readers_pass_bytes_on(rt: HostRuntime) -> Result<(), Fail> {
-    let mut line = String::new(rt.alloc());
+fn readers_pass_bytes_on(rt: HostRuntime) -> Result<(), Failed> {
+    let mut line = Line::new(rt.alloc());
     let mut whole = StandardInput::new(b"abc".as_slice());
-    add(&mut line, "whole", &read_all(rt.alloc(), &mut whole, 3))?;
+    line.add("whole", &read_all(rt.alloc(), &mut whole, 3));
     let mut input = StandardInput::new(rt.reader());
-    add(&mut line, "none", &input.read(&mut []))?;
-    expect_text(&rt, line.as_str(), "whole Ok([97, 98, 99]) none Ok(0)");
-    Ok(())
+    line.add("none", &input.read(&mut []));
+    line.expect(&rt, "all", "whole Ok([97, 98, 99]) none Ok(0)")
 }
 
 #[test]
-fn writers_pass_bytes_on(rt: HostRuntime) -> Result<(), Fail> {
-    let mut line = String::new(rt.alloc());
+fn writers_pass_bytes_on(rt: HostRuntime) -> Result<(), Failed> {
+    let mut line = Line::new(rt.alloc());
     let mut output = StandardOutput::new(io::writer(&rt));
-    add(&mut line, "open", &write_all(&mut output, b"abc\n"))?;
+    line.add("open", &write_all(&mut output, b"abc\n"));
     let (interrupted, fails) = (0, false);
     let mut closed = StandardOutput::new(Odd { interrupted, fails });
-    add(&mut line, "closed", &write_all(&mut closed, b"abc"))?;
-    add(&mut line, "failed", &closed.failures())?;
-    expect_text(
-        &rt,
-        line.as_str(),
-        "open Ok(()) closed Err(Failed) failed 1",
-    );
-    Ok(())
+    line.add("closed", &write_all(&mut closed, b"abc"));
+    line.add("failed", &closed.failures());
+    line.expect(&rt, "all", "open Ok(()) closed Err(Failed) failed 1")
 }

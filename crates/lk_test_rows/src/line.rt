@@ -55,6 +55,18 @@ impl Line {
         self.is_whole && other.is_whole && self.text.as_str() == other.text.as_str()
     }
 
+    /// Adds a word, and in quotes what another line tells.
+    pub fn add_line(&mut self, word: &str, other: &Line) {
+        self.add(word, &other.text);
+        self.is_whole = self.is_whole && other.is_whole;
+    }
+
+    /// Adds a word, and whether two other lines tell the same.
+    pub fn add_like(&mut self, word: &str, one: &Line, other: &Line) {
+        self.add(word, &one.is_like(other));
+        self.is_whole = self.is_whole && one.is_whole && other.is_whole;
+    }
+
     /// Adds a space, unless nothing is told yet.
     pub fn add_space(&mut self) {
         if !self.text.is_empty() {
