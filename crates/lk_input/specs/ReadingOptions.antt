@@ -6,14 +6,13 @@ use Rattle.lk_link.specs.declared.options.OutputKind.{OutputKind}
 use Rattle.lk_link.specs.declared.options.OutputKind.TheVariants.{StaticExecutable, DynamicExecutable, SharedObject, Partial}
 use Rattle.lk_link.specs.declared.options.DiscardLocals.{DiscardLocals}
 use Rattle.lk_link.specs.declared.options.DiscardLocals.TheVariants as discarded
-use Rattle.lk_input.specs.declared.read.options.TheConstants.{BUCKET_LIMIT, MERGE_GROUP}
 use Rattle.lk_input.specs.ReadingSteps.{Path, ◌>>=◌, number_of, index_of, truth_of, text_of, one_of, object, defaulted, optional, list_of, written}
 
 -- the kinds of output
 abbrev pub outputs : List (List ℕ × OutputKind)
 outputs = (written "static", StaticExecutable) ∷ (written "dynamic", DynamicExecutable) ∷ (written "shared", SharedObject) ∷ (written "partial", Partial) ∷ []
 
--- which can be left out
+-- which names of local symbols are left out
 abbrev pub discards : List (List ℕ × DiscardLocals)
 discards = (written "default", discarded.Default) ∷ (written "all", discarded.All) ∷ (written "none", discarded.None) ∷ []
 
@@ -40,8 +39,8 @@ options_of d = do
   entry ← optional index_of (written "entry") d
   relax ← defaulted false truth_of (written "relax") d
   branch_range ← defaulted 0 number_of (written "branch_range") d
-  bucket_limit ← defaulted BUCKET_LIMIT number_of (written "bucket_limit") d
-  merge_group ← defaulted MERGE_GROUP number_of (written "merge_group") d
+  bucket_limit ← defaulted 268435456 number_of (written "bucket_limit") d
+  merge_group ← defaulted 140000 number_of (written "merge_group") d
   Ok (record {
     output = output;
     gc = gc;

@@ -8,7 +8,7 @@ use Rattle.lk_link.specs.declared.plan.PlanSection.{PlanSection}
 use Rattle.lk_input.specs.ReadingSteps.{Path, ◌>>=◌, number_of, index_of, truth_of, text_of, one_of, object, defaulted, optional, fixed_list, element, at_most, list_of, written}
 use Rattle.lk_input.specs.ReadingExpressions.{expression_of}
 
--- when one can be
+-- when an output section is emitted
 abbrev pub emits : List (List ℕ × Emit)
 emits = (written "auto", Auto) ∷ (written "always", Always) ∷ (written "never", Never) ∷ []
 

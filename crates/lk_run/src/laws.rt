@@ -1,6 +1,7 @@
 //! Laws of the definitions, each proved as the contract of a function that does nothing.
 
 ghost use Rattle.lk_run.specs.SoundRun.{RunsAreSound};
+ghost use Rattle.lk_run.specs.Numbers.{NumbersAreThese};
 ghost use Rattle.lk_run.specs.Complete.{CheckRunsAreComplete, GeneratedRunsAreComplete, ImageRunsAreComplete, RunsAreComplete, RunsTellOneAnswer, RunsTellTheAnswer, WhyRunsAreComplete};
 
 use lk_check::well_formed_exactly_unfaulted;
@@ -37,13 +38,14 @@ pub fn runs_tell_one_answer()
     verdicts_agree();
 }
 
-/// A law: a description that meets no refusal is laid out by each run in which no device failed, unless memory ran out.
+/// A law: a description of at most `LONGEST_INPUT` bytes that meets no refusal is laid out by each run in which no device failed, unless
+/// memory ran out.
 pub fn runs_are_complete()
     ensures { RunsAreComplete }
 {}
 
-/// A law: the image of a description that meets no refusal, nor its image any, is written by each run in which no device failed, unless
-/// memory ran out.
+/// A law: the image of a description of at most `LONGEST_INPUT` bytes that meets no refusal, nor its image any, is written by each run in
+/// which no device failed, unless memory ran out.
 pub fn image_runs_are_complete()
     ensures { ImageRunsAreComplete }
 {}
@@ -54,13 +56,14 @@ pub fn generated_runs_are_complete()
     ensures { GeneratedRunsAreComplete }
 {}
 
-/// A law: of a section in a description without a fault each run of `why`, in which no device failed, tells why it is kept or that it
-/// isn't, unless memory ran out.
+/// A law: of a section in a description of at most `LONGEST_INPUT` bytes without a fault each run of `why`, in which no device failed, tells
+/// why it is kept or that it isn't, unless memory ran out.
 pub fn why_runs_are_complete()
     ensures { WhyRunsAreComplete }
 {}
 
-/// A law: in a good map each run of `check`, in which no device failed, finds no fault, unless memory ran out.
+/// A law: in a good map of at most `LONGEST_INPUT` bytes each run of `check`, in which no device failed, finds no fault, unless memory ran
+/// out.
 pub fn check_runs_are_complete()
     ensures { CheckRunsAreComplete }
 {
@@ -78,3 +81,9 @@ pub fn runs_are_sound()
     images_are_made();
     reads_maps();
 }
+
+/// A law: which numbers the constants are that definitions name: how long lists may be, what rules hold numbers to, the bits of attributes
+/// and flags, and what runs go by.
+pub fn numbers_are_these()
+    ensures { NumbersAreThese }
+{}
