@@ -1,7 +1,7 @@
 //! That the answers to rows are theirs.
 
 use crate::line::{Failed, Line};
-use crate::rows::{Row, blocks_of, rows_of};
+use crate::rows::{Row, rows_of};
 use std::alloc::{AllocError, Global};
 use std::io::Eprint;
 
@@ -60,14 +60,4 @@ pub fn expect_rows<R: Eprint, A: Asks<R>>(
     rows: &'static str,
 ) -> Result<(), Failed> {
     expect_each(rt, alloc, asked, &rows_of(alloc, rows))
-}
-
-/// Wants the answer of each block of a text, whose first line is what is asked about, and the others what is told.
-pub fn expect_blocks<R: Eprint, A: Asks<R>>(
-    rt: &R,
-    alloc: Global,
-    asked: &A,
-    blocks: &'static str,
-) -> Result<(), Failed> {
-    expect_each(rt, alloc, asked, &blocks_of(alloc, blocks))
 }

@@ -7,8 +7,8 @@ mod lock_step;
 mod made;
 mod rows;
 
-pub use asked::{Asks, expect_blocks, expect_rows};
+pub use asked::{Asks, expect_rows};
 pub use line::{Failed, Line};
 pub use lock_step::LockStep;
 pub use made::{groups_of, sized_groups, with_groups};
-pub use rows::{Frame, NO_FRAME, Row, add, frame_of, framed, parted, rows_of};
+pub use rows::{Frame, NO_FRAME, Row, add, frame_of, framed, rows_of};

@@ -44,27 +44,10 @@ impl Line {
         }
     }
 
-    /// Adds what another line tells.
-    pub fn push_line(&mut self, other: &Line) {
-        self.push_str(other.text.as_str());
-        self.is_whole = self.is_whole && other.is_whole;
-    }
-
-    /// Whether another line tells the same.
-    pub fn is_like(&self, other: &Line) -> bool {
-        self.is_whole && other.is_whole && self.text.as_str() == other.text.as_str()
-    }
-
     /// Adds a word, and in quotes what another line tells.
     pub fn add_line(&mut self, word: &str, other: &Line) {
         self.add(word, &other.text);
         self.is_whole = self.is_whole && other.is_whole;
-    }
-
-    /// Adds a word, and whether two other lines tell the same.
-    pub fn add_like(&mut self, word: &str, one: &Line, other: &Line) {
-        self.add(word, &one.is_like(other));
-        self.is_whole = self.is_whole && one.is_whole && other.is_whole;
     }
 
     /// Adds a space, unless nothing is told yet.
@@ -110,15 +93,6 @@ impl Line {
         } else {
             let _ = rt.eprintln(format_args!("for {of}\n  told: {told:?}\nwanted: {want:?}"));
             Err(Failed::Told)
-        }
-    }
-
-    /// Wants what another line tells.
-    pub fn expect_like<R: Eprint>(&self, rt: &R, of: &str, want: &Line) -> Result<(), Failed> {
-        if want.is_whole {
-            self.expect(rt, of, want.text.as_str())
-        } else {
-            Err(Failed::NoMemory)
         }
     }
 }

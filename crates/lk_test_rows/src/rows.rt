@@ -113,37 +113,6 @@ pub fn rows_of(alloc: Global, text: &'static str) -> Result<Vec<Row>, AllocError
     Ok(rows)
 }
 
-/// The words of a row in front of its description, and the description.
-pub fn parted(row: &str) -> (&str, &str) {
-    let (words, _) = row.split_once('{').unwrap_or((row, ""));
-    (words, row.strip_prefix(words).unwrap_or(""))
-}
-
-/// A block without its first line where that is a remark.
-fn without_remark(block: &str) -> &str {
-    match block.split_once('\n') {
-        Some((first, rest)) if first.starts_with('#') => rest,
-        _ => block,
-    }
-}
-
-/// The blocks of a text, with empty lines between them: each has a remark, if it has one, what stands in front of the arrow of a row, and below
-/// it the lines that stand behind it. A block that begins with `@` is a frame, and holds for the blocks below it.
-pub fn blocks_of(alloc: Global, text: &'static str) -> Result<Vec<Row>, AllocError> {
-    let mut rows = Vec::new(alloc);
-    let mut frame = NO_FRAME;
-    for block in text.split("\n\n") {
-        let block = without_remark(block);
-        if let Some(next) = block.strip_prefix("@ ") {
-            frame = frame_of(next);
-        } else {
-            let (front, want) = block.split_once('\n').unwrap_or((block, ""));
-            rows.push(Row { frame, front, want })?;
-        }
-    }
-    Ok(rows)
-}
-
 /// Adds a word and a value to a line, behind a space where it isn't empty.
 pub fn add<T: Debug>(line: &mut String, word: &str, value: &T) -> Result<(), AllocError> {
     if !line.is_empty() {
