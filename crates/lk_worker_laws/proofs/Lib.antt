@@ -1,0 +1,3 @@
+mod ClosedGroups
+mod FileUnits
+mod MetAsks
