@@ -59,7 +59,7 @@ pub record FlagsAreThese : Type 0 where
   pub got : flag.GOT.0 ≡ 128
   pub plt : flag.PLT.0 ≡ 256
   pub offset : flag.GOT_TLS_OFFSET.0 ≡ 512
-  pub module : flag.GOT_TLS_MODULE.0 ≡ 1024
+  pub modules : flag.GOT_TLS_MODULE.0 ≡ 1024
   pub descriptor : flag.GOT_TLS_DESCRIPTOR.0 ≡ 2048
   pub size : flag.SYMBOL_SIZE.0 ≡ 4096
   pub exported : flag.EXPORT_DYNAMIC.0 ≡ 8192
