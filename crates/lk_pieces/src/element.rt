@@ -9,14 +9,22 @@ ghost use Rattle.lk_pieces.specs.Reading.{IsRead};
 use json::{Reader, Token};
 use std::alloc::Global;
 
-/// What is read of an item.
-pub trait Element: Sized + Drop {
+/// How an item is read.
+pub trait Element {
+    /// What is read of it.
+    type Item: Drop + Send;
+
     /// What is read of a value, or where its shape is wrong.
-    ghost described: { Data → Result Self (List ℕ) };
+    ghost described: { Data → Result Self.Item (List ℕ) };
 
     /// Reads the value that begins with this token, nested no deeper than `depth`, of which the reader gives the others. No answer
     /// tells nothing.
-    fn read(alloc: Global, token: Token<'_>, reader: &mut Reader<'_>, depth: usize) -> Option<Self>
+    fn read(
+        alloc: Global,
+        token: Token<'_>,
+        reader: &mut Reader<'_>,
+        depth: usize,
+    ) -> Option<Self::Item>
         ensures { IfSome result (λ x. IsRead described depth (token_of token.entry ∷ reader.old) x reader.new) };
 }
 
@@ -24,7 +32,7 @@ pub trait Element: Sized + Drop {
 /// it needn't be given back.
 fn add_item<T: Element>(
     alloc: Global,
-    items: &mut Vec<T>,
+    items: &mut Vec<T::Item>,
     token: Token<'_>,
     reader: &mut Reader<'_>,
     depth: usize,
@@ -43,19 +51,19 @@ fn add_item<T: Element>(
 /// open there.
 pub(crate) fn read_items<T: Element>(
     alloc: Global,
-    items: &mut Vec<T>,
+    items: &mut Vec<T::Item>,
     reader: &mut Reader<'_>,
     depth: usize,
 ) -> Option<bool>
     ensures { IfSome result (λ unclosed. ReadsRow T.described depth reader.old items.old.items items.new.items unclosed reader.new) }
 {
     let token = reader.next()?;
-    add_item(alloc, items, token, reader, depth)?;
+    add_item::<T>(alloc, items, token, reader, depth)?;
     'items: while !reader.take_end_array() {
         let Some(token) = reader.next() else {
             return Some(true);
         };
-        add_item(alloc, items, token, reader, depth)?;
+        add_item::<T>(alloc, items, token, reader, depth)?;
     }
     Some(false)
 }

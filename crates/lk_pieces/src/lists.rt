@@ -25,15 +25,15 @@ pub(crate) fn open_list(reader: &mut Reader<'_>) -> Option<()>
 /// Reads on in an open list, one item or more, up to its end or that of the text; what there is of it, if it stays open.
 fn read_rest<T: Element>(
     alloc: Global,
-    closed: &mut Vec<Row<T>>,
-    row: Row<T>,
+    closed: &mut Vec<Row<T::Item>>,
+    row: Row<T::Item>,
     reader: &mut Reader<'_>,
     depth: usize,
-) -> Option<Option<Row<T>>>
+) -> Option<Option<Row<T::Item>>>
     ensures { IfSome result (λ unclosed. Begins reader.old × ReadsRest T.described depth reader.old row closed.old.items closed.new.items unclosed reader.new) }
 {
     let mut items = row.into_vec();
-    if read_items(alloc, &mut items, reader, depth)? {
+    if read_items::<T>(alloc, &mut items, reader, depth)? {
         return Some(Some(Row::from_vec(items)));
     }
     items.shrink_to_fit();
@@ -44,33 +44,33 @@ fn read_rest<T: Element>(
 /// Reads a list behind its bracket, up to its end or that of the text; what there is of it, if it stays open.
 fn read_list<T: Element>(
     alloc: Global,
-    closed: &mut Vec<Row<T>>,
+    closed: &mut Vec<Row<T::Item>>,
     reader: &mut Reader<'_>,
     depth: usize,
-) -> Option<Option<Row<T>>>
+) -> Option<Option<Row<T::Item>>>
     ensures { IfSome result (λ unclosed. ReadsOn T.described depth true reader.old closed.old.items closed.new.items unclosed reader.new) }
 {
     if reader.take_end_array() {
         closed.push(Row::new(alloc)).ok()?;
         return Some(None);
     }
-    read_rest(alloc, closed, Row::new(alloc), reader, depth)
+    read_rest::<T>(alloc, closed, Row::new(alloc), reader, depth)
 }
 
 /// Reads lists up to the end of the text; what there is of the last one, if it stays open.
 pub(crate) fn read_lists<T: Element>(
     alloc: Global,
-    closed: &mut Vec<Row<T>>,
+    closed: &mut Vec<Row<T::Item>>,
     reader: &mut Reader<'_>,
     depth: usize,
-) -> Option<Option<Row<T>>>
+) -> Option<Option<Row<T::Item>>>
     ensures { IfSome result (λ unclosed. ReadsOn T.described depth false reader.old closed.old.items closed.new.items unclosed []) }
 {
     'lists: while let Some(token) = reader.next() {
         let Token::BeginArray = token else {
             return None;
         };
-        if let Some(row) = read_list(alloc, closed, reader, depth)? {
+        if let Some(row) = read_list::<T>(alloc, closed, reader, depth)? {
             return Some(Some(row));
         }
     }
@@ -80,7 +80,7 @@ pub(crate) fn read_lists<T: Element>(
 /// Reads lists up to the end of the list that they stand in.
 fn read_last_lists<T: Element>(
     alloc: Global,
-    closed: &mut Vec<Row<T>>,
+    closed: &mut Vec<Row<T::Item>>,
     reader: &mut Reader<'_>,
     depth: usize,
 ) -> Option<()>
@@ -88,7 +88,7 @@ fn read_last_lists<T: Element>(
 {
     'lists: while !reader.take_end_array() {
         open_list(reader)?;
-        let None = read_list(alloc, closed, reader, depth)? else {
+        let None = read_list::<T>(alloc, closed, reader, depth)? else {
             return None;
         };
     }
@@ -98,18 +98,18 @@ fn read_last_lists<T: Element>(
 /// Reads the rest of the open list, or the next list if none is open; what there is of it, if it stays open.
 fn read_first<T: Element>(
     alloc: Global,
-    closed: &mut Vec<Row<T>>,
-    unclosed: Option<Row<T>>,
+    closed: &mut Vec<Row<T::Item>>,
+    unclosed: Option<Row<T::Item>>,
     reader: &mut Reader<'_>,
     depth: usize,
-) -> Option<Option<Row<T>>>
+) -> Option<Option<Row<T::Item>>>
     ensures { IfSome result (λ next. ReadsFirst T.described depth reader.old closed.old.items unclosed closed.new.items next reader.new) }
 {
     match unclosed {
-        Some(row) => read_rest(alloc, closed, row, reader, depth),
+        Some(row) => read_rest::<T>(alloc, closed, row, reader, depth),
         None => {
             open_list(reader)?;
-            read_list(alloc, closed, reader, depth)
+            read_list::<T>(alloc, closed, reader, depth)
         }
     }
 }
@@ -117,31 +117,31 @@ fn read_first<T: Element>(
 /// Reads on up to the end of the text, in the open list and in those behind it; what there is of the last one, if it stays open.
 pub(crate) fn read_on<T: Element>(
     alloc: Global,
-    closed: &mut Vec<Row<T>>,
-    unclosed: Option<Row<T>>,
+    closed: &mut Vec<Row<T::Item>>,
+    unclosed: Option<Row<T::Item>>,
     reader: &mut Reader<'_>,
     depth: usize,
-) -> Option<Option<Row<T>>>
+) -> Option<Option<Row<T::Item>>>
     ensures { IfSome result (λ next. Begins reader.old × (left_at fresh reader.old ≡ Some after_value) × GoesOn T.described depth reader.old closed.old.items unclosed closed.new.items next []) }
 {
-    match read_first(alloc, closed, unclosed, reader, depth)? {
+    match read_first::<T>(alloc, closed, unclosed, reader, depth)? {
         Some(row) => Some(Some(row)),
-        None => read_lists(alloc, closed, reader, depth),
+        None => read_lists::<T>(alloc, closed, reader, depth),
     }
 }
 
 /// Reads on up to the end of the list that the lists stand in.
 pub(crate) fn read_to_end<T: Element>(
     alloc: Global,
-    closed: &mut Vec<Row<T>>,
-    unclosed: Option<Row<T>>,
+    closed: &mut Vec<Row<T::Item>>,
+    unclosed: Option<Row<T::Item>>,
     reader: &mut Reader<'_>,
     depth: usize,
 ) -> Option<()>
     ensures { IfSome result (λ _. Begins reader.old × (r : _) × GoesOn T.described depth reader.old closed.old.items unclosed closed.new.items None r × (after_end_array r ≡ Some reader.new)) }
 {
-    let None = read_first(alloc, closed, unclosed, reader, depth)? else {
+    let None = read_first::<T>(alloc, closed, unclosed, reader, depth)? else {
         return None;
     };
-    read_last_lists(alloc, closed, reader, depth)
+    read_last_lists::<T>(alloc, closed, reader, depth)
 }

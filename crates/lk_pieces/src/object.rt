@@ -91,7 +91,7 @@ fn read_front<T: Element, M: Others>(
     piece: &[u8],
     key: &str,
     scratch: &mut Scratch,
-) -> Option<(Part<T>, M)>
+) -> Option<(Part<T::Item>, M)>
     ensures { IfSome result (λ r. OpensObject T.described key.now piece.now r.0 (M.members r.1)) }
 {
     let text = str::from_utf8(piece).ok()?;
@@ -100,7 +100,7 @@ fn read_front<T: Element, M: Others>(
     let mut others = M::none(alloc);
     read_up_to_list(alloc, key, &mut others, &mut reader)?;
     let mut closed = Vec::new(alloc);
-    let unclosed = read_on(alloc, &mut closed, None, &mut reader, ITEM_DEPTH)?;
+    let unclosed = read_on::<T>(alloc, &mut closed, None, &mut reader, ITEM_DEPTH)?;
     let part = Part {
         within: false,
         closed,
@@ -117,7 +117,7 @@ fn read_back<T: Element, M: Others>(
     key: &str,
     others: &mut M,
     scratch: &mut Scratch,
-) -> Option<Part<T>>
+) -> Option<Part<T::Item>>
     ensures { IfSome result (λ part. ClosesObject T.described key.now piece.now part (M.members others.old) (M.members others.new)) }
 {
     let text = str::from_utf8(piece).ok()?;
@@ -127,7 +127,7 @@ fn read_back<T: Element, M: Others>(
         mut closed,
         unclosed,
     } = nothing(alloc, seems_within(piece));
-    read_to_end(alloc, &mut closed, unclosed, &mut reader, ITEM_DEPTH)?;
+    read_to_end::<T>(alloc, &mut closed, unclosed, &mut reader, ITEM_DEPTH)?;
     read_behind_list(alloc, key, others, &mut reader)?;
     match reader.next() {
         Some(_) => None,
@@ -154,13 +154,13 @@ fn read_ends<T: Element, M: Others>(
     near: &[&[u8]],
     last: &[u8],
     key: &str,
-) -> Option<Ends<T, M>>
+) -> Option<Ends<T::Item, M>>
     ensures { IfSome result (λ ends. ReadsEnds T.described key.now first.now (bytes_of near.now) last.now ends.opening ends.ending (M.members ends.others)) }
 {
     let mut scratch = Scratch::new(alloc);
-    let (front, mut others) = read_front(alloc, first, key, &mut scratch)?;
-    let opening = read_in_turn(alloc, front, near, &mut scratch, ITEM_DEPTH)?;
-    let ending = read_back(alloc, last, key, &mut others, &mut scratch)?;
+    let (front, mut others) = read_front::<T, _>(alloc, first, key, &mut scratch)?;
+    let opening = read_in_turn::<T>(alloc, front, near, &mut scratch, ITEM_DEPTH)?;
+    let ending = read_back::<T, _>(alloc, last, key, &mut others, &mut scratch)?;
     Some(Ends {
         opening,
         ending,
@@ -175,16 +175,16 @@ fn read_alone<T: Element, M: Others>(
     pieces: &[&[u8]],
     last: &[u8],
     key: &str,
-) -> Option<(Vec<Row<T>>, M)>
+) -> Option<(Vec<Row<T::Item>>, M)>
     ensures { IfSome result (λ r. HoldsList T.described key.now (joined (first.now ∷ bytes_of pieces.now) last.now) r.0.items (M.members r.1)) }
 {
-    let ends = read_ends(alloc, first, pieces, last, key)?;
+    let ends = read_ends::<T, _>(alloc, first, pieces, last, key)?;
     let Ends {
         opening,
         ending,
         others,
     } = ends;
-    let lists = whole_lists(join_parts(opening, ending)?)?;
+    let lists = whole_lists(join_parts::<T>(opening, ending)?)?;
     Some((lists, others))
 }
 
@@ -198,19 +198,19 @@ fn read_beside<T: Element + Send, M: Others, R: Threads + Sync>(
     last: &[u8],
     key: &str,
     workers: usize,
-) -> Option<(Vec<Row<T>>, M)>
+) -> Option<(Vec<Row<T::Item>>, M)>
     requires { 0 < workers }
     ensures { IfSome result (λ r. HoldsList T.described key.now (joined (first.now ∷ (bytes_of near.now ++ bytes_of far.now)) last.now) r.0.items (M.members r.1)) }
 {
     let (between, ends) = join(
         rt,
-        || -> Option<Vec<Option<Part<T>>>>
+        || -> Option<Vec<Option<Part<T::Item>>>>
             requires { IsSync R.row × (0 < workers) }
             ensures { IfSome result (λ answers. AreShares T.described 124 (bytes_of far.entry.now) answers.items) }
-        { read_shares(rt, alloc, far, ITEM_DEPTH, workers) },
-        || -> Option<Ends<T, M>>
+        { read_shares::<T, _>(rt, alloc, far, ITEM_DEPTH, workers) },
+        || -> Option<Ends<T::Item, M>>
             ensures { IfSome result (λ ends. ReadsEnds T.described key.entry.now first.entry.now (bytes_of near.entry.now) last.entry.now ends.opening ends.ending (M.members ends.others)) }
-        { read_ends(alloc, first, near, last, key) },
+        { read_ends::<T, _>(alloc, first, near, last, key) },
     );
     let ends = ends?;
     let Ends {
@@ -218,8 +218,8 @@ fn read_beside<T: Element + Send, M: Others, R: Threads + Sync>(
         ending,
         others,
     } = ends;
-    let opening = join_shares(opening, between?)?;
-    let lists = whole_lists(join_parts(opening, ending)?)?;
+    let opening = join_shares::<T>(opening, between?)?;
+    let lists = whole_lists(join_parts::<T>(opening, ending)?)?;
     Some((lists, others))
 }
 
@@ -242,12 +242,12 @@ pub fn read_object_in_pieces<T: Element, M: Others, G: Guess>(
     text: &[u8],
     key: &str,
     guess: &G,
-) -> Option<(Vec<Row<T>>, M)>
+) -> Option<(Vec<Row<T::Item>>, M)>
     ensures { IfSome result (λ r. HoldsList T.described key.now text.now r.0.items (M.members r.1)) }
 {
     let (pieces, last) = cut(alloc, text, guess).ok()?;
     let (first, pieces) = pieces.as_slice().split_first()?;
-    read_alone(alloc, first, pieces, last, key)
+    read_alone::<T, _>(alloc, first, pieces, last, key)
 }
 
 /// The same, read by so many workers side by side, each on a thread of its own, of which the caller's is one; none counts as one, and no
@@ -259,15 +259,15 @@ pub fn read_object_by_workers<T: Element + Send, M: Others, G: Guess, R: Threads
     key: &str,
     guess: &G,
     workers: usize,
-) -> Option<(Vec<Row<T>>, M)>
+) -> Option<(Vec<Row<T::Item>>, M)>
     ensures { IfSome result (λ r. HoldsList T.described key.now text.now r.0.items (M.members r.1)) }
 {
     let (pieces, last) = cut(alloc, text, guess).ok()?;
     let (first, pieces) = pieces.as_slice().split_first()?;
     let (near, far) = pieces.split_at(near_count(pieces.len(), workers));
     if far.is_empty() {
-        return read_alone(alloc, first, pieces, last, key);
+        return read_alone::<T, _>(alloc, first, pieces, last, key);
     }
     let others = workers.saturating_sub(1).min(far.len()).max(1);
-    read_beside(rt, alloc, first, near, far, last, key, others)
+    read_beside::<T, _, _>(rt, alloc, first, near, far, last, key, others)
 }

@@ -19,7 +19,7 @@ pub(crate) struct Part<T> {
 }
 
 /// What is read of no piece.
-pub(crate) fn nothing<T: Element>(alloc: Global, within: bool) -> Part<T>
+pub(crate) fn nothing<T: Drop>(alloc: Global, within: bool) -> Part<T>
     ensures within { result.within ≡ within }
     ensures closed { result.closed.items ≡ [] }
     ensures unclosed { result.unclosed ≡ cond within (Some []) None }
@@ -52,11 +52,11 @@ pub(crate) fn seem_within(pieces: &[&[u8]]) -> bool {
 /// What is read of a piece, with what was read of those before it.
 fn read_piece<T: Element>(
     alloc: Global,
-    part: Part<T>,
+    part: Part<T::Item>,
     piece: &[u8],
     scratch: &mut Scratch,
     depth: usize,
-) -> Option<Part<T>>
+) -> Option<Part<T::Item>>
     ensures { IfSome result (λ more. Continue T.described depth (piece.now ∷ []) part more) }
 {
     let text = str::from_utf8(piece).ok()?;
@@ -66,7 +66,7 @@ fn read_piece<T: Element>(
         mut closed,
         unclosed,
     } = part;
-    let unclosed = read_on(alloc, &mut closed, unclosed, &mut reader, depth)?;
+    let unclosed = read_on::<T>(alloc, &mut closed, unclosed, &mut reader, depth)?;
     Some(Part {
         within,
         closed,
@@ -77,16 +77,16 @@ fn read_piece<T: Element>(
 /// What is read of pieces, one after the other, with what was read of those before them.
 pub(crate) fn read_in_turn<T: Element>(
     alloc: Global,
-    part: Part<T>,
+    part: Part<T::Item>,
     pieces: &[&[u8]],
     scratch: &mut Scratch,
     depth: usize,
-) -> Option<Part<T>>
+) -> Option<Part<T::Item>>
     ensures { IfSome result (λ all. Continue T.described depth (bytes_of pieces.now) part all) }
 {
     let mut all = part;
     for piece in pieces {
-        all = read_piece(alloc, all, piece, scratch, depth)?;
+        all = read_piece::<T>(alloc, all, piece, scratch, depth)?;
     }
     Some(all)
 }
@@ -94,11 +94,11 @@ pub(crate) fn read_in_turn<T: Element>(
 /// The lists of two parts, of which the second goes on with this one, which the first leaves open.
 fn join_rows<T: Element>(
     within: bool,
-    closed: Vec<Row<T>>,
-    row: Row<T>,
-    more: Vec<Row<T>>,
-    unclosed: Option<Row<T>>,
-) -> Option<Part<T>>
+    closed: Vec<Row<T::Item>>,
+    row: Row<T::Item>,
+    more: Vec<Row<T::Item>>,
+    unclosed: Option<Row<T::Item>>,
+) -> Option<Part<T::Item>>
     ensures { IfSome result (λ both. JoinsRows T.described closed.items row more.items unclosed both) }
 {
     let mut all = closed;
@@ -122,7 +122,10 @@ fn join_rows<T: Element>(
 }
 
 /// The lists of two parts, one after the other: both stand within a list where they meet, or both between lists.
-pub(crate) fn join_parts<T: Element>(part: Part<T>, more: Part<T>) -> Option<Part<T>>
+pub(crate) fn join_parts<T: Element>(
+    part: Part<T::Item>,
+    more: Part<T::Item>,
+) -> Option<Part<T::Item>>
     ensures { IfSome result (λ both. Joins T.described part more both) }
 {
     let Part {
@@ -131,7 +134,7 @@ pub(crate) fn join_parts<T: Element>(part: Part<T>, more: Part<T>) -> Option<Par
         unclosed,
     } = part;
     match unclosed {
-        Some(row) if more.within => join_rows(within, closed, row, more.closed, more.unclosed),
+        Some(row) if more.within => join_rows::<T>(within, closed, row, more.closed, more.unclosed),
         None if !more.within => {
             let mut others = more.closed;
             closed.append(&mut others).ok()?;
@@ -146,7 +149,7 @@ pub(crate) fn join_parts<T: Element>(part: Part<T>, more: Part<T>) -> Option<Par
 }
 
 /// The lists of a part that leaves none open.
-pub(crate) fn whole_lists<T: Element>(part: Part<T>) -> Option<Vec<Row<T>>>
+pub(crate) fn whole_lists<T: Drop>(part: Part<T>) -> Option<Vec<Row<T>>>
     ensures { IfSome result (λ lists. (lists.items ≡ part.closed.items) × (part.unclosed ≡ None)) }
 {
     let Part {

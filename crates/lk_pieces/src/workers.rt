@@ -40,13 +40,13 @@ fn read_share<T: Element>(
     depth: usize,
     size: usize,
     worker: usize,
-) -> Option<Part<T>>
+) -> Option<Part<T::Item>>
     ensures { ReadsShare T.described depth size pieces.now worker result }
 {
     let mut scratch = Scratch::new(alloc);
     let pieces = share(pieces, size, worker);
     let within = seem_within(pieces);
-    let all = read_in_turn(alloc, nothing(alloc, within), pieces, &mut scratch, depth)?;
+    let all = read_in_turn::<T>(alloc, nothing(alloc, within), pieces, &mut scratch, depth)?;
     Some(Part {
         within,
         closed: all.closed,
@@ -62,7 +62,7 @@ fn read_each<T: Element + Send, R: Threads + Sync>(
     depth: usize,
     size: usize,
     workers: usize,
-) -> Result<Vec<Option<Part<T>>>, AllocError>
+) -> Result<Vec<Option<Part<T::Item>>>, AllocError>
     ensures count { IfOk result (λ answers. vec_len answers ≡ workers) }
     ensures each { IfOk result (λ answers. ReadShares T.described depth size pieces.now workers answers.items) }
 {
@@ -70,9 +70,9 @@ fn read_each<T: Element + Send, R: Threads + Sync>(
         rt,
         alloc,
         workers,
-        &|worker: usize| -> Option<Part<T>>
+        &|worker: usize| -> Option<Part<T::Item>>
             ensures { ReadsShare T.described depth size pieces.entry.now worker result }
-        { read_share(alloc, pieces, depth, size, worker) },
+        { read_share::<T>(alloc, pieces, depth, size, worker) },
     )
 }
 
@@ -83,13 +83,13 @@ pub(crate) fn read_shares<T: Element + Send, R: Threads + Sync>(
     pieces: &[&[u8]],
     depth: usize,
     workers: usize,
-) -> Option<Vec<Option<Part<T>>>>
+) -> Option<Vec<Option<Part<T::Item>>>>
     requires { 0 < workers }
     ensures { IfSome result (λ answers. AreShares T.described depth (bytes_of pieces.now) answers.items) }
 {
     let size = share_size(pieces.len(), workers).max(1);
     let sharers = share_size(pieces.len(), size);
-    let Ok(answers) = read_each(rt, alloc, pieces, depth, size, sharers) else {
+    let Ok(answers) = read_each::<T, _>(rt, alloc, pieces, depth, size, sharers) else {
         return None;
     };
     Some(answers)
@@ -97,14 +97,14 @@ pub(crate) fn read_shares<T: Element + Send, R: Threads + Sync>(
 
 /// What was read of pieces, and behind them of those that workers read.
 pub(crate) fn join_shares<T: Element>(
-    part: Part<T>,
-    answers: Vec<Option<Part<T>>>,
-) -> Option<Part<T>>
+    part: Part<T::Item>,
+    answers: Vec<Option<Part<T::Item>>>,
+) -> Option<Part<T::Item>>
     ensures { IfSome result (λ all. (depth : ℕ) (ps : List (List ℕ)) → AreShares T.described depth ps answers.items → Continue T.described depth ps part all) }
 {
     let mut all = part;
     for answer in answers {
-        all = join_parts(all, answer?)?;
+        all = join_parts::<T>(all, answer?)?;
     }
     Some(all)
 }
