@@ -26,7 +26,12 @@ use serde_json::{Map, Value};
 use std::alloc::Global;
 use std::thread::Threads;
 
-impl Element for InputFile {
+/// How a file of a group is read.
+struct Files;
+
+impl Element for Files {
+    type Item = InputFile;
+
     ghost described = { input_file_of };
 
     fn read(
@@ -95,7 +100,7 @@ pub(crate) fn read_in_turn(alloc: Global, bytes: &[u8], size: usize) -> Option<L
 {
     let cuts = Cuts { size };
     let key = LinkKey::Groups.text();
-    let (groups, others) = read_object_in_pieces(alloc, bytes, key, &cuts)?;
+    let (groups, others) = read_object_in_pieces::<Files, _, _>(alloc, bytes, key, &cuts)?;
     link_with(alloc, groups, others)
 }
 
@@ -111,6 +116,8 @@ pub(crate) fn read_by_workers<R: Threads + Sync>(
 {
     let cuts = Cuts { size };
     let key = LinkKey::Groups.text();
-    let (groups, others) = read_object_by_workers(rt, alloc, bytes, key, &cuts, workers)?;
+    let (groups, others) = read_object_by_workers::<Files, _, _, _>(
+        rt, alloc, bytes, key, &cuts, workers,
+    )?;
     link_with(alloc, groups, others)
 }
