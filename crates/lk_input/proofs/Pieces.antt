@@ -4,7 +4,6 @@ use Rattle.std.specs.Prelude.{IfSome}
 use Rattle.std.specs.Result.{result_ok}
 use Rattle.std.proofs.lemmas.Str.{is_utf8-from_IsUtf8}
 use Rattle.serde_json.specs.Data.{Data, array, object, Items, no_items, item, Members}
-use Rattle.serde_json.specs.Find.{get_member}
 use Rattle.lk_pieces.specs.Around.{IsBut, HoldsList}
 use Rattle.lk_pieces.specs.Reading.{Give, GiveLists}
 use Rattle.lk_link.specs.declared.file.InputFile.{InputFile}

@@ -1,5 +1,5 @@
 -- What is read of the plan, in the order of its fields.
-use Rattle.std.specs.Prelude.{ℕ, [], Result, Ok, false}
+use Rattle.std.specs.Prelude.{[], Result, Ok, false}
 use Rattle.serde_json.specs.Data.{Data}
 use Rattle.lk_link.specs.Expressions.{number}
 use Rattle.lk_link.specs.declared.plan.Plan.{Plan}

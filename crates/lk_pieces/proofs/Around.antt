@@ -16,7 +16,6 @@ use Rattle.lk_pieces.specs.Lists.{AreLists, GoesOn}
 use Rattle.lk_pieces.specs.Pieces.{joined, tokens_of, Continue, Joins}
 use Rattle.lk_pieces.specs.Reading.{GiveLists}
 use Rattle.lk_pieces.specs.Tokens.{data_at, items_at, members_at}
-use Rattle.lk_pieces.specs.Workers.{AreShares}
 use Rattle.lk_pieces.proofs.Joined.{joined_tokens, first_utf8, both_continue}
 use Rattle.lk_pieces.proofs.ListLaws.{lists_read, no_lists}
 use Rattle.lk_pieces.proofs.Members.{but_put}

@@ -6,8 +6,8 @@ use Rattle.json.specs.Lex.{Place, fresh, after_value}
 use Rattle.json.specs.Json.{parse_map, after_end_array}
 use Rattle.serde_json.specs.Data.{Data, Items, no_items, item, array}
 use Rattle.lk_pieces.specs.Joining.{left_at, Begins}
-use Rattle.lk_pieces.specs.Lists.{Enters, AreLists, ReadsItem, EndsRow, ReadsRow, StaysOpen, ReadsRest, ReadsOn, GoesOn, ReadsFirst}
-use Rattle.lk_pieces.specs.Reading.{IsRead, AreRead, Give, GiveLists}
+use Rattle.lk_pieces.specs.Lists.{Enters, AreLists, ReadsItem, ReadsRow, StaysOpen, ReadsRest, ReadsOn, GoesOn, ReadsFirst}
+use Rattle.lk_pieces.specs.Reading.{AreRead, GiveLists}
 use Rattle.lk_pieces.specs.Tokens.{data_at, items_at}
 use Rattle.lk_pieces.proofs.Reading.{nothing_read, both_read, read_with_more, some_leave, read_begins, items_read}
 use Rattle.lk_pieces.proofs.Tokens.{and_next, items_at-next, items_at-over, data_at-array, data_at-shorter}

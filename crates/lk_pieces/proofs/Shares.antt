@@ -1,5 +1,5 @@
 -- Pieces in shares.
-use Rattle.std.proofs.Common.{◌≡◌, ℕ, zero, suc, ◌+◌, ◌*◌, ◌<◌, ◌≤◌, List, [], ◌∷◌, ◌++◌, length, take, drop, get_or, Bool, cond, Option, Some, None, Result, refl, sym, ap, ◌∙◌, subst, append_assoc, append-nil, length-drop, arith}
+use Rattle.std.proofs.Common.{◌≡◌, ℕ, suc, ◌+◌, ◌*◌, ◌<◌, ◌≤◌, List, [], ◌∷◌, ◌++◌, length, take, drop, get_or, Bool, cond, Option, Some, None, Result, refl, sym, ap, ◌∙◌, subst, append_assoc, append-nil, length-drop, arith}
 use Rattle.std.proofs.lemmas.List.{map-append, take-append-drop, drop-drop}
 use Rattle.std.specs.Prelude.{IfSome}
 use Rattle.std.specs.Borrow.{Bor}

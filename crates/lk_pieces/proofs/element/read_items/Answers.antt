@@ -1,4 +1,4 @@
-use Rattle.std.proofs.Common.{◌≡◌, [], ◌∷◌, Some, None, arith}
+use Rattle.std.proofs.Common.{◌≡◌, [], ◌∷◌, Some, arith}
 use Rattle.json.specs.Json.{after_end_array}
 use Rattle.json.specs.Reads.{token_of}
 use Rattle.lk_pieces.proofs.ListLaws.{first_item, next_item, item_shorter, row_ended, row_open}

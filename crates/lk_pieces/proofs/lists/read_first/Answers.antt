@@ -1,5 +1,3 @@
-use Rattle.std.proofs.Common.{◌≡◌, ◌∷◌, Some, refl, arith}
-use Rattle.json.specs.Token.{Token}
 use Rattle.lk_pieces.proofs.ListLaws.{within_told, between_told}
 use Rattle.lk_pieces.proofs.lists.read_first.Goals as goal
 
