@@ -1,16 +1,10 @@
 -- A description whose groups are read in pieces of its text: the words of private contracts.
-use Rattle.std.specs.Prelude.{◌≡◌, ℕ, List, Some, Result, Ok}
-use Rattle.serde_json.specs.Data.{Data, object, Members}
+use Rattle.std.specs.Prelude.{◌≡◌, List, Some, Ok}
+use Rattle.serde_json.specs.Data.{object, Members}
 use Rattle.lk_link.specs.declared.file.InputFile.{InputFile}
 use Rattle.lk_link.specs.declared.link.LinkInput.{LinkInput}
 use Rattle.lk_input.specs.declared.read.LinkMembers.{LinkMembers}
 use Rattle.lk_input.specs.LargeMembers.{link_from}
-use Rattle.lk_input.specs.ReadingFiles.{input_file_of}
-use Rattle.lk_input.specs.ReadingSteps.{Path, list_of}
-
--- a group of files
-abbrev pub group_of : Data → Result (List InputFile) Path
-group_of d = list_of input_file_of d
 
 -- the large member of the description, once its groups were read
 abbrev pub these_groups : List (List InputFile) → LinkMembers

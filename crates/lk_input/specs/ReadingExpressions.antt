@@ -4,7 +4,6 @@ use Rattle.std.specs.Fmt.{decimal}
 use Rattle.serde_json.specs.Data.{Data, array, Items, no_items, item}
 use Rattle.lk_link.specs.declared.expression.Operand.{Operand}
 use Rattle.lk_link.specs.declared.expression.Operand.TheVariants as is
-use Rattle.lk_link.specs.declared.expression.Operator.{Operator}
 use Rattle.lk_link.specs.declared.expression.Operator.TheVariants as operator
 use Rattle.lk_link.specs.declared.expression.Token.{Token}
 use Rattle.lk_link.specs.Expressions.{Term, Leaf, Node, postfix}

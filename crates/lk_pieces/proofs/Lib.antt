@@ -3,6 +3,7 @@ pub mod Grammar
 pub mod Joined
 pub mod Joining
 pub mod Lexing
+pub mod ListLaws
 pub mod Members
 pub mod Reading
 pub mod Shares

@@ -12,7 +12,7 @@ use Rattle.lk_pieces.proofs.Tokens.{and_next, items_at-next, items_at-over, data
 
 -- ---- a value that was read
 
-nothing_read : {A P : Type 0} (a : A) (o : Option A) → o ≡ None → o ≡ Some a → P
+pub nothing_read : {A P : Type 0} (a : A) (o : Option A) → o ≡ None → o ≡ Some a → P
 nothing_read a o e f = let never : None ≡ Some a = sym e ∙ f in absurd cc
 
 -- it begins with a token that begins one

@@ -1,5 +1,6 @@
 pub mod Around
 pub mod Joining
+pub mod Lists
 pub mod Pieces
 pub mod Reading
 pub mod Tokens

@@ -1,13 +1,13 @@
 -- A text in pieces, with a comma between one and the next.
-use Rattle.std.specs.Prelude.{◌≡◌, ℕ, ◌<◌, List, [], ◌∷◌, ◌++◌, length, map, Some, Result}
+use Rattle.std.specs.Prelude.{◌≡◌, ℕ, Bool, true, List, [], ◌∷◌, ◌++◌, map, Option, Some, Result, ⊤}
 use Rattle.std.specs.Borrow.{Bor}
 use Rattle.std.specs.Str.{IsUtf8}
 use Rattle.json.specs.Token.{Token}
-use Rattle.json.specs.Lex.{tokens}
-use Rattle.json.specs.Json.{after_end_array}
-use Rattle.serde_json.specs.Data.{Data, Items, array}
-use Rattle.serde_json.specs.Read.{read}
-use Rattle.lk_pieces.specs.Reading.{AreRead, Give}
+use Rattle.json.specs.Lex.{fresh, after_value, tokens}
+use Rattle.serde_json.specs.Data.{Data}
+use Rattle.lk_pieces.specs.declared.pieces.Part.{Part}
+use Rattle.lk_pieces.specs.Joining.{left_at, Begins}
+use Rattle.lk_pieces.specs.Lists.{AreLists, GoesOn}
 
 -- the text of these pieces and the last
 abbrev pub joined : List (List ℕ) → List ℕ → List ℕ
@@ -18,27 +18,31 @@ joined (p ∷ ps) last = p ++ 44 ∷ joined ps last
 abbrev pub bytes_of : List (Bor (List ℕ)) → List (List ℕ)
 bytes_of ps = map (λ p. p.now) ps
 
--- a piece is values, one after the other, of which f reads these
-abbrev pub Holds : {A E : Type 0} → (Data → Result A E) → ℕ → List ℕ → List A → Type 0
-Holds f depth piece xs = IsUtf8 piece × (0 < length xs) × AreRead f depth (tokens piece) xs []
+-- the tokens of pieces, of one after the other
+abbrev pub tokens_of : List (List ℕ) → List Token
+tokens_of [] = []
+tokens_of (p ∷ ps) = tokens p ++ tokens_of ps
 
--- all pieces are, and give these together
-unfoldable pub AreHeld : {A E : Type 0} → (Data → Result A E) → ℕ → List (List ℕ) → List A → Type 0
-AreHeld f depth [] xs = xs ≡ []
-AreHeld {A} f depth (p ∷ ps) xs = (ys zs : List A) × (xs ≡ ys ++ zs) × Holds f depth p ys × AreHeld f depth ps zs
+-- each begins with a value and ends behind one
+unfoldable pub ArePieces : List (List ℕ) → Type 0
+ArePieces [] = ⊤
+ArePieces (p ∷ ps) = (IsUtf8 p × Begins (tokens p) × (left_at fresh (tokens p) ≡ Some after_value)) × ArePieces ps
 
--- the same of the first piece, behind the bracket that opens the list
-abbrev pub Opens : {A E : Type 0} → (Data → Result A E) → ℕ → List ℕ → List A → Type 0
-Opens f depth piece xs = IsUtf8 piece × (0 < length xs) × (ts : List Token) × (tokens piece ≡ Token.begin_array ∷ ts) × AreRead f depth ts xs []
+-- pieces are these lists
+abbrev pub AreHeld : {A E : Type 0} → (Data → Result A E) → ℕ → List (List ℕ) → Part A → Type 0
+AreHeld f depth ps part = ArePieces ps × AreLists f depth part.within (tokens_of ps) part.closed.items part.unclosed []
 
--- tokens are such values up to the bracket that closes the list, and leave those behind it
-abbrev pub AreLast : {A E : Type 0} → (Data → Result A E) → ℕ → List Token → List A → List Token → Type 0
-AreLast f depth ts xs left = (0 < length xs) × (r : List Token) × AreRead f depth ts xs r × (after_end_array r ≡ Some left)
+-- with these pieces behind them, what was read becomes this
+abbrev pub Continue : {A E : Type 0} → (Data → Result A E) → ℕ → List (List ℕ) → Part A → Part A → Type 0
+Continue f depth ps old new = ArePieces ps × GoesOn f depth (tokens_of ps) old.closed.items old.unclosed new.closed.items new.unclosed []
 
--- the same of the last piece, with nothing behind the bracket
-abbrev pub Closes : {A E : Type 0} → (Data → Result A E) → ℕ → List ℕ → List A → Type 0
-Closes f depth piece xs = IsUtf8 piece × AreLast f depth (tokens piece) xs []
+-- with what was read of tokens from within a list, up to some behind, these lists and the open one become those
+abbrev pub JoinsRows : {A E : Type 0} → (Data → Result A E) → List (List A) → List A → List (List A) → Option (List A) → Part A → Type 0
+JoinsRows f xss row yss unclosed both =
+    (depth : ℕ) (within : Bool) (us ts r : List Token) → AreLists f depth within us xss (Some row) [] → AreLists f depth true ts yss unclosed r → AreLists f depth within (us ++ ts) both.closed.items both.unclosed r
 
--- a text is a list, of the items of which f reads these
-abbrev pub IsListOf : {A E : Type 0} → (Data → Result A E) → List ℕ → List A → Type 0
-IsListOf f text xs = IsUtf8 text × (ds : Items) × (read text ≡ Some (array ds)) × Give f ds xs
+-- one part and what was read of tokens behind it are this one
+abbrev pub Joins : {A E : Type 0} → (Data → Result A E) → Part A → Part A → Part A → Type 0
+Joins f part more both =
+    (depth : ℕ) (within : Bool) (us ts r : List Token) → AreLists f depth within us part.closed.items part.unclosed [] → AreLists f depth more.within ts more.closed.items more.unclosed r
+    → AreLists f depth within (us ++ ts) both.closed.items both.unclosed r

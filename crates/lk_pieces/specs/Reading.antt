@@ -3,7 +3,7 @@ use Rattle.std.specs.Prelude.{◌≡◌, ℕ, List, [], ◌∷◌, ◌++◌, Som
 use Rattle.json.specs.Token.{Token}
 use Rattle.json.specs.Lex.{Place, after_value}
 use Rattle.json.specs.Json.{Parse}
-use Rattle.serde_json.specs.Data.{Data, Items, no_items, item}
+use Rattle.serde_json.specs.Data.{Data, Items, no_items, item, array}
 use Rattle.lk_pieces.specs.Joining.{left_at}
 use Rattle.lk_pieces.specs.Tokens.{data_at}
 
@@ -27,3 +27,10 @@ Give f no_items [] = ⊤
 Give f no_items (x ∷ xs) = ⊥
 Give f (item d ds) [] = ⊥
 Give f (item d ds) (x ∷ xs) = (f d ≡ Ok x) × Give f ds xs
+
+-- these items are lists, of whose items f reads these values
+unfoldable pub GiveLists : {A E : Type 0} → (Data → Result A E) → Items → List (List A) → Type 0
+GiveLists f no_items [] = ⊤
+GiveLists f no_items (xs ∷ xss) = ⊥
+GiveLists f (item d ds) [] = ⊥
+GiveLists f (item d ds) (xs ∷ xss) = (es : Items) × (d ≡ array es) × Give f es xs × GiveLists f ds xss

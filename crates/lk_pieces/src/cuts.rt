@@ -5,8 +5,8 @@ ghost use Rattle.lk_pieces.specs.Pieces.{joined, bytes_of};
 
 use std::alloc::{AllocError, Global};
 
-/// Guesses at a comma between two items. Any answer will do: a text is cut only where a comma is, and a cut between others than items
-/// shows when the pieces are read.
+/// Guesses at a comma between two lists, or two items of one. Any answer will do: a text is cut only where a comma is, and a cut between
+/// others shows when the pieces are read.
 pub trait Guess {
     /// How many bytes stand before the comma at which this text may be cut next.
     fn place(&self, text: &[u8]) -> Option<usize>;

@@ -1,61 +1,69 @@
 //! The items of a list, read one after the other.
 
-ghost use Rattle.std.specs.Prelude.{◌≡◌, ◌<◌, [], ◌∷◌, List, ℕ, Result, IfSome, length};
+ghost use Rattle.std.specs.Prelude.{◌≡◌, ◌∷◌, List, ℕ, Result, IfSome};
 ghost use Rattle.json.specs.Reads.{token_of};
 ghost use Rattle.serde_json.specs.Data.{Data};
-ghost use Rattle.lk_pieces.specs.Pieces.{AreLast};
-ghost use Rattle.lk_pieces.specs.Reading.{IsRead, AreRead};
+ghost use Rattle.lk_pieces.specs.Lists.{ReadsItem, ReadsRow};
+ghost use Rattle.lk_pieces.specs.Reading.{IsRead};
 
 use json::{Reader, Token};
 use std::alloc::Global;
 
-/// What is read of an item.
-pub trait Element: Sized + Drop {
+/// How an item is read.
+pub trait Element {
+    /// What is read of it.
+    type Item: Drop + Send;
+
     /// What is read of a value, or where its shape is wrong.
-    ghost described: { Data → Result Self (List ℕ) };
+    ghost described: { Data → Result Self.Item (List ℕ) };
 
     /// Reads the value that begins with this token, nested no deeper than `depth`, of which the reader gives the others. No answer
     /// tells nothing.
-    fn read(alloc: Global, token: Token<'_>, reader: &mut Reader<'_>, depth: usize) -> Option<Self>
+    fn read(
+        alloc: Global,
+        token: Token<'_>,
+        reader: &mut Reader<'_>,
+        depth: usize,
+    ) -> Option<Self::Item>
         ensures { IfSome result (λ x. IsRead described depth (token_of token.entry ∷ reader.old) x reader.new) };
 }
 
-/// These items, unless there are none.
-fn some_items<T: Drop>(items: Vec<T>) -> Option<Vec<T>>
-    ensures { IfSome result (λ some. (some.items ≡ items.items) × (0 < length items.items)) }
-{
-    if items.is_empty() { None } else { Some(items) }
-}
-
-/// The items up to the end of a text, if there is one.
-pub fn read_items<T: Element>(
+/// Puts the item that begins with this token behind others. The first gets room for itself alone, since many lists have one item, and
+/// it needn't be given back.
+fn add_item<T: Element>(
     alloc: Global,
+    items: &mut Vec<T::Item>,
+    token: Token<'_>,
     reader: &mut Reader<'_>,
     depth: usize,
-) -> Option<Vec<T>>
-    ensures { IfSome result (λ items. (0 < length items.items) × AreRead T.described depth reader.old items.items []) }
+) -> Option<()>
+    ensures { IfSome result (λ _. ReadsItem T.described depth (token_of token.entry ∷ reader.old) items.old.items items.new.items reader.new) }
 {
-    let mut items = Vec::new(alloc);
-    'items: while let Some(token) = reader.next() {
-        let item = T::read(alloc, token, reader, depth)?;
-        items.push(item).ok()?;
+    let item = T::read(alloc, token, reader, depth)?;
+    if items.is_empty() && items.reserve_exact(1).is_err() {
+        drop(item);
+        return None;
     }
-    some_items(items)
+    items.push(item).ok()
 }
 
-/// The items up to the end of a list, if there is one.
-pub fn read_last_items<T: Element>(
+/// The items up to the end of a list or of the text, of which there has to be one, behind those that were read; whether the list stays
+/// open there.
+pub(crate) fn read_items<T: Element>(
     alloc: Global,
+    items: &mut Vec<T::Item>,
     reader: &mut Reader<'_>,
     depth: usize,
-) -> Option<Vec<T>>
-    ensures { IfSome result (λ items. AreLast T.described depth reader.old items.items reader.new) }
+) -> Option<bool>
+    ensures { IfSome result (λ unclosed. ReadsRow T.described depth reader.old items.old.items items.new.items unclosed reader.new) }
 {
-    let mut items = Vec::new(alloc);
+    let token = reader.next()?;
+    add_item::<T>(alloc, items, token, reader, depth)?;
     'items: while !reader.take_end_array() {
-        let token = reader.next()?;
-        let item = T::read(alloc, token, reader, depth)?;
-        items.push(item).ok()?;
+        let Some(token) = reader.next() else {
+            return Some(true);
+        };
+        add_item::<T>(alloc, items, token, reader, depth)?;
     }
-    some_items(items)
+    Some(false)
 }

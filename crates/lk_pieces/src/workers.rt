@@ -1,11 +1,11 @@
 //! Pieces that several workers read side by side.
 
-ghost use Rattle.std.specs.Prelude.{◌≡◌, ◌<◌, ◌≤◌, ◌*◌, IfOk, IfSome, length, vec_len};
-ghost use Rattle.lk_pieces.specs.Pieces.{bytes_of, AreHeld};
-ghost use Rattle.lk_pieces.specs.Workers.{share_of, ReadsShare, ReadShares};
+ghost use Rattle.std.specs.Prelude.{◌≡◌, ◌<◌, ◌≤◌, ◌*◌, ℕ, List, IfOk, IfSome, vec_len};
+ghost use Rattle.lk_pieces.specs.Pieces.{bytes_of, Continue};
+ghost use Rattle.lk_pieces.specs.Workers.{share_of, ReadsShare, ReadShares, AreShares};
 
 use crate::element::Element;
-use crate::pieces::read_in_turn;
+use crate::pieces::{Part, join_parts, nothing, read_in_turn, seem_within};
 use json::Scratch;
 use std::alloc::{AllocError, Global};
 use std::thread::{Threads, map_indices};
@@ -13,7 +13,7 @@ use std::thread::{Threads, map_indices};
 /// How many of so many pieces each of so many workers reads at most.
 fn share_size(pieces: usize, workers: usize) -> usize
     requires { 0 < workers }
-    ensures { pieces ≤ workers * result }
+    ensures { pieces ≤ result * workers }
 {
     let rounded = pieces / workers;
     if pieces % workers == 0 {
@@ -40,22 +40,29 @@ fn read_share<T: Element>(
     depth: usize,
     size: usize,
     worker: usize,
-) -> Option<Vec<T>>
+) -> Option<Part<T::Item>>
     ensures { ReadsShare T.described depth size pieces.now worker result }
 {
     let mut scratch = Scratch::new(alloc);
-    read_in_turn(alloc, share(pieces, size, worker), &mut scratch, depth)
+    let pieces = share(pieces, size, worker);
+    let within = seem_within(pieces);
+    let all = read_in_turn::<T>(alloc, nothing(alloc, within), pieces, &mut scratch, depth)?;
+    Some(Part {
+        within,
+        closed: all.closed,
+        unclosed: all.unclosed,
+    })
 }
 
 /// What each worker reads of its pieces, on a thread of its own.
-fn read_shares<T: Element + Send, R: Threads + Sync>(
+fn read_each<T: Element + Send, R: Threads + Sync>(
     rt: &R,
     alloc: Global,
     pieces: &[&[u8]],
     depth: usize,
     size: usize,
     workers: usize,
-) -> Result<Vec<Option<Vec<T>>>, AllocError>
+) -> Result<Vec<Option<Part<T::Item>>>, AllocError>
     ensures count { IfOk result (λ answers. vec_len answers ≡ workers) }
     ensures each { IfOk result (λ answers. ReadShares T.described depth size pieces.now workers answers.items) }
 {
@@ -63,31 +70,41 @@ fn read_shares<T: Element + Send, R: Threads + Sync>(
         rt,
         alloc,
         workers,
-        &|worker: usize| -> Option<Vec<T>>
+        &|worker: usize| -> Option<Part<T::Item>>
             ensures { ReadsShare T.described depth size pieces.entry.now worker result }
-        { read_share(alloc, pieces, depth, size, worker) },
+        { read_share::<T>(alloc, pieces, depth, size, worker) },
     )
 }
 
-/// The items of pieces, one after the other, read by so many workers.
-pub(crate) fn read_by_workers<T: Element + Send, R: Threads + Sync>(
+/// What so many workers, or fewer, read of pieces, each of a share of them.
+pub(crate) fn read_shares<T: Element + Send, R: Threads + Sync>(
     rt: &R,
     alloc: Global,
     pieces: &[&[u8]],
     depth: usize,
     workers: usize,
-) -> Option<Vec<T>>
+) -> Option<Vec<Option<Part<T::Item>>>>
     requires { 0 < workers }
-    ensures { IfSome result (λ items. AreHeld T.described depth (bytes_of pieces.now) items.items) }
+    ensures { IfSome result (λ answers. AreShares T.described depth (bytes_of pieces.now) answers.items) }
 {
-    let size = share_size(pieces.len(), workers);
-    let Ok(answers) = read_shares(rt, alloc, pieces, depth, size, workers) else {
+    let size = share_size(pieces.len(), workers).max(1);
+    let sharers = share_size(pieces.len(), size);
+    let Ok(answers) = read_each::<T, _>(rt, alloc, pieces, depth, size, sharers) else {
         return None;
     };
-    let mut items = Vec::new(alloc);
+    Some(answers)
+}
+
+/// What was read of pieces, and behind them of those that workers read.
+pub(crate) fn join_shares<T: Element>(
+    part: Part<T::Item>,
+    answers: Vec<Option<Part<T::Item>>>,
+) -> Option<Part<T::Item>>
+    ensures { IfSome result (λ all. (depth : ℕ) (ps : List (List ℕ)) → AreShares T.described depth ps answers.items → Continue T.described depth ps part all) }
+{
+    let mut all = part;
     for answer in answers {
-        let mut more = answer?;
-        items.append(&mut more).ok()?;
+        all = join_parts::<T>(all, answer?)?;
     }
-    Some(items)
+    Some(all)
 }

@@ -17,7 +17,7 @@ const SIZES: [usize; 4] = [0, 1, 64, 150];
 const WORKERS: [usize; 4] = [0, 2, 4, 8];
 
 /// Texts of groups that end and begin as cuts want it, where each kind of piece is whole or at fault.
-const TEXTS: [&str; 22] = [
+const TEXTS: [&str; 38] = [
     // Groups of files, of one and none among them.
     r#"{"options":{"gc":false},"plan":{"page":1},"groups":[[{"kind":"prelude"}],[{"kind":"object","name":"a"},{"kind":"object","name":"b"}],[],[{"kind":"dynamic","name":"c"}],[{"kind":"script"}]]}"#,
     // Members behind the groups, and unknown ones around them.
@@ -44,6 +44,29 @@ const TEXTS: [&str; 22] = [
     r#"{"plan":{"page":1},"groups":[[{"kind":"prelude"}],[{"kind":"object"}],[{"kind":"object"}],,[{"kind":"object"}]]}"#,
     r#"{"plan":{"page":1},"groups":[[{"kind":"prelude"}],[{"kind":"object"}]],[{"kind":"object"}],[{"kind":"object"}]]}"#,
     r#"[{"plan":{"page":1},"groups":[[{"kind":"prelude"}],[{"kind":"object"}],[{"kind":"object"}]]}]"#,
+    // One group alone, also with members around it, and of one file.
+    r#"{"plan":{"page":1},"groups":[[{"kind":"prelude"},{"kind":"object","name":"a"},{"kind":"script","name":"b"},{"kind":"object","name":"c"},{"kind":"object","name":"d"}]]}"#,
+    r#"{"x":0,"groups":[[{"kind":"prelude"},{"kind":"object"},{"kind":"dynamic","name":"z"}]],"plan":{"page":2},"y":[{"kind":"object"},{"kind":"object"}]}"#,
+    r#"{"plan":{"page":1},"groups":[[{"kind":"prelude"}]]}"#,
+    // A long group between short ones, and empty ones beside it.
+    r#"{"plan":{"page":1},"groups":[[{"kind":"prelude"}],[{"kind":"object","name":"a"},{"kind":"object","name":"b"},{"kind":"object","name":"c"},{"kind":"object","name":"d"},{"kind":"object","name":"e"},{"kind":"object","name":"f"}],[{"kind":"script"}],[{"kind":"dynamic"}]]}"#,
+    r#"{"plan":{"page":1},"groups":[[],[{"kind":"prelude"},{"kind":"object","name":"a"},{"kind":"object","name":"b"}],[],[],[{"kind":"object","name":"c"},{"kind":"object","name":"d"}],[]]}"#,
+    // A segment, which has a kind too, behind the groups.
+    r#"{"groups":[[{"kind":"prelude"},{"kind":"object"}],[{"kind":"object"},{"kind":"object"}]],"plan":{"page":1,"segments":[{"kind":"load"},{"kind":"tls"},{"kind":"other"}]}}"#,
+    // Other keys first, and files in unknown members of files.
+    r#"{"plan":{"page":1},"groups":[[{"kind":"prelude"},{"archive":true,"kind":"object"},{"symbols":[{"at":["undef"]},{"at":["undef"]}],"kind":"object"},{"name":"n","kind":"object"},{"export":true,"kind":"object"}]]}"#,
+    r#"{"plan":{"page":1},"groups":[[{"kind":"prelude"},{"kind":"object","x":[{"kind":"object"},{"kind":"object"}]},{"kind":"object"}],[{"kind":"object"},{"x":[[{"kind":"object"},{"kind":"object"}],[{"kind":"object"}]],"kind":"script"}]]}"#,
+    // What cuts look for between files, inside a name.
+    r#"{"plan":{"page":1},"groups":[[{"kind":"prelude"},{"kind":"object","name":"},{\"kind\":\"object"},{"kind":"object","name":"},{"},{"kind":"object","name":"}]"}]]}"#,
+    // The groups twice, each cut within one.
+    r#"{"plan":{"page":1},"groups":[[{"kind":"prelude"},{"kind":"object"},{"kind":"object"}]],"groups":[[{"kind":"script"},{"kind":"object"},{"kind":"object"}]]}"#,
+    // Faults between files, brackets too many or too few, and what isn't a list or an object among them.
+    r#"{"plan":{"page":1},"groups":[[{"kind":"prelude"},{"kind":"object"}],{"kind":"object"},{"kind":"object"}]}"#,
+    r#"{"plan":{"page":1},"groups":[{"kind":"prelude"},{"kind":"object"},{"kind":"object"}]}"#,
+    r#"{"plan":{"page":1},"groups":[[[{"kind":"prelude"},{"kind":"object"}],[{"kind":"object"},{"kind":"object"}]]]}"#,
+    r#"{"plan":{"page":1},"groups":[[{"kind":"prelude"},{"kind":"object"},,{"kind":"object"},{"kind":"object"}]]}"#,
+    r#"{"plan":{"page":1},"groups":[[{"kind":"prelude"},{"kind":"object"},{"kind":"object"},{"kind":"object"}]}"#,
+    r#" { "plan" : { "page" : 1 } , "groups" : [ [ {"kind" : "prelude"} , {"kind" :"object"} ,{"kind": "object"} , {"kind":"object"} ] , [ ] ] } "#,
     // One group, and spaces.
     r#"{"plan":{"page":1},"groups":[[{"kind":"prelude"},{"kind":"object"}]]}"#,
     r#" { "plan" : { "page" : 1 } , "groups" : [ [ { "kind" : "prelude" } ] , [ {"kind":"object"}],[{"kind":"object" } ],[{"kind":"object" } ] ] } "#,
@@ -99,8 +122,42 @@ fn pieces_are_read_as_the_whole(rt: HostRuntime) -> Result<(), Fail> {
     Ok(())
 }
 
+/// Texts with a wrong shape in a file of a group that is cut, and its path.
+const FAULTS: [(&str, &str); 5] = [
+    (
+        r#"{"plan":{"page":1},"groups":[[{"kind":"prelude"},{"kind":"object"},{"kind":"object","symbols":0},{"kind":"object"},{"kind":"object"}]]}"#,
+        "at /groups/0/2/symbols",
+    ),
+    (
+        r#"{"plan":{"page":1},"groups":[[{"kind":"prelude"}],[{"kind":"object"},{"kind":"object"},{"kind":"object","name":[]},{"kind":"object"}],[{"kind":0}]]}"#,
+        "at /groups/1/2/name",
+    ),
+    (
+        r#"{"plan":{"page":1},"groups":[[{"kind":"prelude"},{"kind":"object"},7,{"kind":"object"},{"kind":"object"}]]}"#,
+        "at /groups/0/2",
+    ),
+    (
+        r#"{"plan":{"page":1},"groups":[[{"kind":"prelude"},{"kind":"object"},{"kind":"object"}],0,[{"kind":"object"},{"kind":"object"}]]}"#,
+        "at /groups/1",
+    ),
+    (
+        r#"{"plan":{"page":1},"groups":[[{"kind":"prelude"},{"kind":"object"},{"kind":"object"},{"kind":"object","archive":1}]]}"#,
+        "at /groups/0/3/archive",
+    ),
+];
+
+#[test]
+fn faults_in_pieces_have_their_paths(rt: HostRuntime) -> Result<(), Fail> {
+    for (text, path) in FAULTS {
+        for size in SIZES {
+            expect_alike_by_size(&rt, rt.alloc(), text, path, size)?;
+        }
+    }
+    Ok(())
+}
+
 /// Parts of texts, of which any may follow any other.
-const PARTS: [&str; 16] = [
+const PARTS: [&str; 20] = [
     r#"[{"kind":"object"}]"#,
     r#"[{"kind":"object","name":"n"},{"kind":"dynamic"}]"#,
     r#"],[{"kind":"script"}"#,
@@ -116,6 +173,10 @@ const PARTS: [&str; 16] = [
     r#"],"plan":{"page":2}"#,
     r#","groups":["#,
     r#"[{"x":[[],[{"y":1}]],"kind":"object"}]"#,
+    r#"{"kind":"object"}"#,
+    r#"},{"kind":"object","name":"m""#,
+    r#"[{"kind":"object"},{"kind":"script"}"#,
+    r#"{"kind":"dynamic"},{"kind":"object"}]"#,
     "\"",
 ];
 
@@ -135,7 +196,7 @@ fn drawn_text(alloc: Global, seed: u64, count: u64) -> Result<String, AllocError
         let part = if at % 2 == 1 && number < 1 << 63 {
             ","
         } else {
-            PARTS[(number >> 40) as usize % 16]
+            PARTS[(number >> 40) as usize % 20]
         };
         text.push_str(part)?;
     }

@@ -81,7 +81,7 @@ impl Word for FileKind {
 }
 
 /// All kinds of files.
-const FILE_KINDS: [FileKind; 6] = [
+pub(crate) const FILE_KINDS: [FileKind; 6] = [
     FileKind::Prelude,
     FileKind::Object,
     FileKind::Dynamic,
@@ -259,7 +259,7 @@ fn file_from(alloc: Global, known: FileMembers) -> Result<InputFile, InputError>
 
 /// The file that begins with this token, if it begins an object.
 #[tactic(auto, using(crate::proofs::Objects::objects))]
-fn stream_file(
+pub(crate) fn stream_file(
     alloc: Global,
     token: Token<'_>,
     reader: &mut Reader<'_>,

@@ -1,16 +1,18 @@
 //! A description whose groups are read in pieces of its text.
 //!
-//! The text is cut at commas between groups, and a reader reads each piece by itself, with room for its own escaped strings alone. What
-//! is read is what is read of the whole; where a piece is no run of groups, nothing is said, and the caller reads the text whole.
+//! The text is cut at commas between groups or between files of one, and a reader reads each piece by itself, with room for its own
+//! escaped strings alone. What is read is what is read of the whole; where a piece is no run of files and groups, nothing is said, and
+//! the caller reads the text whole.
 
 ghost use Rattle.std.specs.Prelude.{◌≡◌, Ok, IfSome};
 ghost use Rattle.serde_json.specs.View.{members_view};
-ghost use Rattle.lk_input.specs.Pieces.{group_of, Makes};
+ghost use Rattle.lk_input.specs.Pieces.{Makes};
 ghost use Rattle.lk_input.specs.Reading.{reading_of};
+ghost use Rattle.lk_input.specs.ReadingFiles.{input_file_of};
 
-use crate::read::cuts::BetweenGroups;
+use crate::read::cuts::Cuts;
+use crate::read::file::stream_file;
 use crate::read::kept::Kept;
-use crate::read::stream::stream_list;
 use crate::read::tokens::{put_member, value_at};
 use crate::read::word::Word;
 use crate::read::{LinkKey, LinkMembers, link_from};
@@ -19,42 +21,26 @@ use lk_link::file::InputFile;
 use lk_link::groups::InputGroups;
 use lk_link::link::LinkInput;
 use lk_link::list::List;
-use lk_pieces::{Element, Others, read_object_by_workers, read_object_in_pieces};
+use lk_pieces::{Element, Others, Row, read_object_by_workers, read_object_in_pieces};
 use serde_json::{Map, Value};
 use std::alloc::Global;
-use std::marker::Model;
 use std::thread::Threads;
 
-/// A group of files.
-#[derive(Drop)]
-struct Group {
-    files: List<InputFile>,
-}
+/// How a file of a group is read.
+struct Files;
 
-impl Model for Group {
-    ghost use Rattle.std.specs.Prelude.{List};
-    ghost use Rattle.std.specs.Coded.{codes};
-    ghost use Rattle.lk_link.specs.contracts.expression.Expression as expression;
-    ghost use Rattle.lk_link.specs.declared.file.InputFile.{InputFile};
+impl Element for Files {
+    type Item = InputFile;
 
-    ghost Value = { List InputFile };
-
-    ghost coded = { Prim.hlevel (codes, expression.the_row.coded) };
-
-    ghost view = { λ group. group.files };
-}
-
-impl Element for Group {
-    ghost described = { group_of };
+    ghost described = { input_file_of };
 
     fn read(
         alloc: Global,
         token: Token<'_>,
         reader: &mut Reader<'_>,
         depth: usize,
-    ) -> Option<Group> {
-        let files = stream_list(alloc, token, reader, depth).ok()?.ok()?;
-        Some(Group { files })
+    ) -> Option<InputFile> {
+        stream_file(alloc, token, reader, depth).ok()?.ok()
     }
 }
 
@@ -86,19 +72,19 @@ impl Others for OtherMembers {
 }
 
 /// The files of all groups.
-fn files_of(alloc: Global, groups: Vec<Group>) -> Option<List<List<InputFile>>>
+fn files_of(alloc: Global, groups: Vec<Row<InputFile>>) -> Option<List<List<InputFile>>>
     ensures { IfSome result (λ files. files ≡ groups.items) }
 {
     let files = groups
         .into_iter()
-        .map(|group| group.files)
+        .map(|group| List::from_vec(group.into_vec()))
         .collect(alloc)
         .ok()?;
     Some(List::from_vec(files))
 }
 
 /// The description with these groups and these other members.
-fn link_with(alloc: Global, groups: Vec<Group>, others: OtherMembers) -> Option<LinkInput>
+fn link_with(alloc: Global, groups: Vec<Row<InputFile>>, others: OtherMembers) -> Option<LinkInput>
     ensures { IfSome result (λ link. Makes groups.items (members_view others.map.entries) link) }
 {
     let groups = InputGroups::new(alloc, files_of(alloc, groups)?).ok()?;
@@ -112,9 +98,9 @@ fn link_with(alloc: Global, groups: Vec<Group>, others: OtherMembers) -> Option<
 pub(crate) fn read_in_turn(alloc: Global, bytes: &[u8], size: usize) -> Option<LinkInput>
     ensures { IfSome result (λ link. reading_of bytes.now ≡ Ok link) }
 {
-    let cuts = BetweenGroups { size };
+    let cuts = Cuts { size };
     let key = LinkKey::Groups.text();
-    let (groups, others) = read_object_in_pieces(alloc, bytes, key, &cuts)?;
+    let (groups, others) = read_object_in_pieces::<Files, _, _>(alloc, bytes, key, &cuts)?;
     link_with(alloc, groups, others)
 }
 
@@ -128,8 +114,10 @@ pub(crate) fn read_by_workers<R: Threads + Sync>(
 ) -> Option<LinkInput>
     ensures { IfSome result (λ link. reading_of bytes.now ≡ Ok link) }
 {
-    let cuts = BetweenGroups { size };
+    let cuts = Cuts { size };
     let key = LinkKey::Groups.text();
-    let (groups, others) = read_object_by_workers(rt, alloc, bytes, key, &cuts, workers)?;
+    let (groups, others) = read_object_by_workers::<Files, _, _, _>(
+        rt, alloc, bytes, key, &cuts, workers,
+    )?;
     link_with(alloc, groups, others)
 }

@@ -1,9 +1,6 @@
-use Rattle.std.proofs.Common.{◌≡◌, Some, Ok, sym, ap, ◌∙◌, arith}
-use Rattle.serde_json.specs.View.{view, members_view}
-use Rattle.serde_json.specs.declared.value.Value.{Object}
+use Rattle.std.proofs.Common.{◌≡◌, Some, Ok, ap, ◌∙◌, arith}
+use Rattle.serde_json.specs.View.{members_view}
 use Rattle.serde_json.proofs.Views.{view-Object}
-use Rattle.lk_input.specs.LargeMembers.{link_from}
-use Rattle.lk_input.specs.Pieces.{these_groups}
 use Rattle.lk_input.proofs.Pieces.{made_of, kept_by}
 use Rattle.lk_input.proofs.read.pieces.link_with.Goals as goal
 
