@@ -1,4 +1,5 @@
-"""Small descriptions of several groups, whose texts are cut between these: written in odd ways, and with faults where a cut may be."""
+"""Small descriptions of several groups, or of one, whose texts are cut between these and between their files: written in odd ways, and with faults
+where a cut may be."""
 
 import json
 import re
@@ -19,6 +20,8 @@ ODD_SYMBOLS = [{"at": ["undef"], "name": "],[{"}]
 UNKNOWN = (
     [[1], [{"a": 0}], [{"b": 0}]],
     {"groups": [[{"kind": "object"}], [{"kind": "object"}]]},
+    [{"kind": "object"}, {"kind": "object"}],
+    [{"kind": "load"}, {"sections": [{"kind": "script"}, {"symbols": []}]}],
     {"],[{": [[], [{"],[{": 1}]]},
     "],[{",
     7,
@@ -28,6 +31,11 @@ BLANKS = (b" ", b"\n", b"\t", b"\r\n", b"   ")
 BEHIND_THE_END = (b" ", b"\n", b"}", b"]", b",", b"x", b"{}", b"\xff", b'],[{"a":0}]}')
 # Behind it a key begins, and not what follows a text that ends so.
 BETWEEN_GROUPS = re.compile(rb'\]\s*,\s*\[\{"(?=[a-z\\])')
+# Where a file begins behind another of its group, by a first key that is no symbol's nor section's.
+BETWEEN_FILES = re.compile(rb'\}\s*,\s*\{"(?=(?:kind|symbols|sections|archive|export|check|candidates)")')
+# What may stand there that is none.
+NO_GROUPS = (b"],,[{\"", b"]]", b"][{\"", b"],[[{\"", b"],{\"", b"]},[{\"")
+NO_FILES = (b"},,{\"", b"}}", b"}{\"", b"},{{\"", b"},[{\"", b"}],{\"", b"}],[[{\"")
 
 
 def plain_file(rng, odd):
@@ -91,16 +99,21 @@ def blank(rng, share):
 
 
 def blank_between(rng, text, share):
-    """The text with blanks where a group begins behind another, in a share of the places; such a text is cut where the bracket stands by the
-    brace and that by the key."""
+    """The text with blanks where a group or a file begins behind another, in a share of the places; such a text is cut where the bracket stands
+    by the brace and that by the key."""
 
-    def spaced(found):
+    def spaced_groups(found):
         if rng.random() >= share:
             return found[0]
         begins = b"[" + blank(rng, 0.05) + b"{" + blank(rng, 0.05) + b'"'
         return b"]" + blank(rng, 0.7) + b"," + blank(rng, 0.7) + begins
 
-    return BETWEEN_GROUPS.sub(spaced, text)
+    def spaced_files(found):
+        if rng.random() >= share:
+            return found[0]
+        return b"}" + blank(rng, 0.7) + b"," + blank(rng, 0.7) + b"{" + blank(rng, 0.05) + b'"'
+
+    return BETWEEN_FILES.sub(spaced_files, BETWEEN_GROUPS.sub(spaced_groups, text))
 
 
 def text_of(rng, description, odd):
@@ -114,8 +127,9 @@ def text_of(rng, description, odd):
 
 
 def break_between(rng, text):
-    """The text with a fault where one group ends and the next begins."""
-    places = list(BETWEEN_GROUPS.finditer(text))
+    """The text with a fault where one group or file ends and the next begins."""
+    between, others = rng.choice(((BETWEEN_GROUPS, NO_GROUPS), (BETWEEN_FILES, NO_FILES)))
+    places = list(between.finditer(text))
     if not places:
         return break_text(rng, text)
     found = rng.choice(places)
@@ -126,7 +140,7 @@ def break_between(rng, text):
     if choice == 1:
         return text[:place] + text[place + 1 :]
     if choice == 2:
-        return text[: found.start()] + rng.choice((b"],,[{\"", b"]]", b"][{\"", b"],[[{\"", b"],{\"", b"]},[{\"")) + text[found.end() :]
+        return text[: found.start()] + rng.choice(others) + text[found.end() :]
     return text[:place] + rng.choice(STRAY_BYTES) + text[place:]
 
 
