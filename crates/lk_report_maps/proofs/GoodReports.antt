@@ -1,5 +1,5 @@
 -- The reports of plain layouts are good maps.
-use Rattle.std.proofs.Common.{◌≡◌, ℕ, ◌+◌, ◌<◌, List, Ok, length, sym, ap, subst, ◌∙◌, arith, zero-add}
+use Rattle.std.proofs.Common.{◌≡◌, ℕ, ◌+◌, ◌<◌, ◌^◌, List, length, sym, ap, subst, ◌∙◌, arith, zero-add}
 use Rattle.std.specs.Prelude.{slice_index}
 use Rattle.std.specs.List.{enumerate_from}
 use Rattle.std.proofs.lemmas.List.{get_or-map}
@@ -73,8 +73,8 @@ module _ (stands : RelaxedStands) (file_apart : FileSectionsAreApart) (memory_ap
   told_flag flag s as_planned below = ap (is_set flag) (attributes_at link live s below) ∙ as_planned
 
   -- what is told of what is made is good
-  pub of_made : IsCovered link (layout_of made) → IsGood (map_sections link (layout_of made)) (map_segments link (layout_of made))
-  of_made covered =
+  pub of_made : IsCovered link (layout_of made) → link.options.stack < 2 ^ 64 → IsGood (map_sections link (layout_of made)) (map_segments link (layout_of made))
+  of_made covered stack =
       told_is_good setting stage.states stage.records soundly_set plain whole link.options.stack (is_emitted (made_content made)) (active_segments (made_content made))
       (λ s. slice_index (all_section_attributes link live) s) (first_segment_line link (layout_of made))
       (record {
@@ -83,15 +83,15 @@ module _ (stands : RelaxedStands) (file_apart : FileSectionsAreApart) (memory_ap
         thread_local = λ s below. told_flag 8 s (told_as_planned 8 thread_local_flag link live good reached s) below;
         zero_filled = λ s below. told_flag 16 s (told_as_planned 16 zero_filled_flag link live good reached s) below;
         held = λ s below allocated bytes. let h = covered.held s below allocated bytes in (h.segment, h.told, h.k, h.places);
-        small = covered.stack;
+        small = stack;
       })
       file_apart memory_apart sections_fit segments_fit hold
 
 pub plain_reports_are_good : DefinedLayoutsAreSound → LaidOutLinksAreWellFormed → RelaxedStands → FileSectionsAreApart → PlainMemorySectionsAreApart → SectionsFit → SegmentsFit → PlainSegmentsHoldSections
     → PlainReportsAreGood
-plain_reports_are_good sound well stands file_apart memory_apart sections_fit segments_fit hold machine link layout lawful defined plain covered =
+plain_reports_are_good sound well stands file_apart memory_apart sections_fit segments_fit hold machine link layout lawful defined plain covered stack =
     let (live, stage, is) = sound machine link layout lawful defined in
     let made : Made = made_of machine link live stage in
     subst (λ (l : LayoutRecord). IsGood (map_sections link l) (map_segments link l)) (sym is.is)
     (of_made stands file_apart memory_apart sections_fit segments_fit hold machine link live stage lawful (well machine link layout defined) is.reached is.stands plain
-    (subst (λ (l : LayoutRecord). IsCovered link l) is.is covered))
+    (subst (λ (l : LayoutRecord). IsCovered link l) is.is covered) stack)

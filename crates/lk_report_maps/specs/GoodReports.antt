@@ -19,13 +19,13 @@ pub record StandsInTold (link : LinkInput) (layout : LayoutRecord) (s : ℕ) : T
   pub told : Contains layout.segment_layouts segment
   pub places : PlacesInLoad link.plan segment.id s k
 
--- no section is secondary, each that is allocated and has bytes in the file stands in a load segment that is told, and the stack has 64 bits
+-- no section is secondary, and each that is allocated and has bytes in the file stands in a load segment that is told
 pub record IsCovered (link : LinkInput) (layout : LayoutRecord) : Type 0 where
   pub primary : (s : ℕ) → s < length link.plan.sections → (section_at link.plan.sections s).primary ≡ None
   pub held : (s : ℕ) → s < length link.plan.sections → is_allocated link.plan s ≡ true → has_file_bytes (record_at layout.section_layouts s) ≡ true → StandsInTold link layout s
-  pub stack : link.options.stack < 2 ^ 64
 
--- what the report of a defined layout tells of sections and segments is good, under a plain plan whose sections are covered so
+-- what the report of a defined layout tells of sections and segments is good, under a plain plan whose sections are covered so, where the stack
+-- has 64 bits
 abbrev pub PlainReportsAreGood : Type 0
 PlainReportsAreGood = (machine : Machine) (link : LinkInput) (layout : LayoutRecord) → IsLawfulMachine machine → IsDefined machine link (Ok layout)
-    → IsPlain link.plan link.options.output → IsCovered link layout → IsGood (map_sections link layout) (map_segments link layout)
+    → IsPlain link.plan link.options.output → IsCovered link layout → link.options.stack < 2 ^ 64 → IsGood (map_sections link layout) (map_segments link layout)

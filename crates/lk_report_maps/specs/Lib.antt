@@ -1,3 +1,4 @@
 pub mod GoodReports
 pub mod Laws
+pub mod MappedReports
 pub mod ToldLines

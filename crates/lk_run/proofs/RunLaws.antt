@@ -1,5 +1,5 @@
 -- The steps of a run make the run that is promised.
-use Rattle.std.proofs.Common.{◌≡◌, ◌⊎◌, inl, inr, ℕ, Bool, true, false, List, [], Option, Some, None, Result, Ok, Err, sym, subst, ap, ◌∙◌, refl}
+use Rattle.std.proofs.Common.{◌≡◌, ◌⊎◌, inl, inr, ℕ, Bool, true, false, List, [], Option, Some, None, Result, Ok, Err, sym, subst, ap, ◌∙◌, refl, true≢false}
 use Rattle.std.specs.Prelude.{IfOk, MatchBool, MatchOption}
 use Rattle.lk_input.specs.declared.read.error.InputError.{InputError}
 use Rattle.lk_input.specs.Reading.{reading_of}
@@ -26,7 +26,7 @@ use Rattle.lk_run.specs.declared.words.Command.{Command}
 use Rattle.lk_run.specs.declared.words.Command.TheVariants as commands
 use Rattle.lk_devices.specs.Device.{SourceState, SinkState}
 use Rattle.lk_run.specs.Run.{Held, Whole, Longer, Holds, IsReadUp, IsKept, IsAnswerOf, IsAnswerTo, IsAnswerToReading, IsImageAnswer, IsLayoutAnswer, IsMapAnswer, IsSectionAnswer, IsWayAnswer, IsWhyAnswer, judged, refused, IsAnswered, IsDefinedFor, Commanded, Unmoved, Uncommanded, IsRun, image_told, imaged, summed_up, told_of}
-use Rattle.lk_run.specs.Steps.{GivesInput, IsCommandRun, IsFailure, IsMadeTold, IsToldBy, IsUsageRun, held_by}
+use Rattle.lk_run.specs.Steps.{GivesInput, IsCommandRun, IsFailure, IsMadeFor, IsMadeOf, IsMadeTold, IsMappedAnswer, IsToldBy, IsUsageRun, held_by}
 use Rattle.lk_run.specs.WhyTexts.{link_fault_line, no_section_text}
 use Rattle.lk_run.specs.Words.{command_of, reads, usage}
 
@@ -114,6 +114,7 @@ given_read command input from to does holds up faultless = (
       let given : Commanded command from to answer = record { held = held_by input; holds = holds; answers = is; read = up; faultless = faultless } in
       subst (λ b. MatchBool b (Commanded command from to answer) (Unmoved command from to answer)) (sym does) given,
   subst (λ b. MatchBool b (to.faults ≡ from.faults) (to ≡ from)) (sym does) faultless,
+  λ _. holds,
 )
 
 -- why one that reads is given nothing
@@ -128,19 +129,36 @@ given_unread command input from does_not none = (
       let given : Unmoved command from from answer = record { untouched = refl; answers = subst (λ h. IsAnswerTo command h answer) none is } in
       subst (λ b. MatchBool b (Commanded command from from answer) (Unmoved command from from answer)) (sym does_not) given,
   subst (λ b. MatchBool b (from.faults ≡ from.faults) (from ≡ from)) (sym does_not) refl,
+  λ does. absurd (true≢false (sym does ∙ does_not)),
 )
 
--- an answer to an input that is too long is the answer to it
+-- an answer to an input that is too long is made for it
 pub too_long_answers : {E : Type 0} (made : Result Answer E) (command : Command) (input : CommandInput) → input ≡ TooLong
-    → IfOk made (λ answer. (any : Command) → IsAnswerTo any Longer answer) → IfOk made (IsAnswerTo command (held_by input))
-too_long_answers (Ok answer) command input is given = subst (λ i. IsAnswerTo command (held_by i) answer) (sym is) (given command)
+    → IfOk made (λ answer. (any : Command) → IsAnswerTo any Longer answer) → IfOk made (IsMadeFor command (held_by input))
+too_long_answers (Ok answer) command input is given = subst (λ i. IsMadeFor command (held_by i) answer) (sym is) (given command)
 too_long_answers (Err e) command input is given = given
+
+-- what was made for a command answers it
+made_reading : (reading : Result LinkInput InputError) (answer : Answer) → IsAnswerToReading IsMappedAnswer reading answer → IsAnswerToReading IsLayoutAnswer reading answer
+made_reading (Ok link) answer is = (is.0, is.1, is.2)
+made_reading (Err e) answer is = is
+
+made_of : (command : Command) (bytes : List ℕ) (answer : Answer) → IsMadeOf command bytes answer → IsAnswerOf command bytes answer
+made_of (commands.Layout workers) bytes answer is = made_reading (reading_of bytes) answer is
+made_of (commands.Gen seed size) bytes answer is = is
+made_of (commands.Why file index) bytes answer is = is
+made_of commands.Check bytes answer is = is
+made_of (commands.Image workers) bytes answer is = is
+
+made_for : (command : Command) (held : Held) (answer : Answer) → IsMadeFor command held answer → IsAnswerTo command held answer
+made_for command (Whole bytes) answer is = made_of command bytes answer is
+made_for command Longer answer is = is
 
 -- what was made of it, and told
 pub made_run : {E : Type 0} (command : Command) (input : CommandInput) (made : Result Answer E) (from to : SourceState) (before after : SinkState) (status : Status)
-    → GivesInput command (Ok input) from to → IfOk made (IsAnswerTo command (held_by input)) → IsMadeTold made status before after
+    → GivesInput command (Ok input) from to → IfOk made (IsMadeFor command (held_by input)) → IsMadeTold made status before after
     → IsCommandRun command from to before after status
-made_run command input (Ok answer) from to before after status given is told = inl (answer, given.0 answer is, told)
+made_run command input (Ok answer) from to before after status given is told = inl (answer, given.0 answer (made_for command (held_by input) answer is), told)
 made_run command input (Err e) from to before after status given is told =
     inr (subst (λ s. IsFailure command s from to) (sym told.0) given.1, told.1)
 

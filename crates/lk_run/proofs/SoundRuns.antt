@@ -58,7 +58,7 @@ told_layout law from before after bytes link (Err e) answer holds described defi
     absurd (cc)
 
 -- an answer with that status to what was read is the answer to a link
-done_reading : (to_link : LinkInput → Answer → Type 0) (reading : Result LinkInput InputError) (answer : Answer) → IsAnswerToReading to_link reading answer → Done ≡ answer.status
+pub done_reading : (to_link : LinkInput → Answer → Type 0) (reading : Result LinkInput InputError) (answer : Answer) → IsAnswerToReading to_link reading answer → Done ≡ answer.status
     → (link : LinkInput) × (reading ≡ Ok link) × to_link link answer
 done_reading to_link (Ok link) answer is status = (link, refl, is)
 done_reading to_link (Err e) answer is status =

@@ -2,6 +2,7 @@ pub mod Complete
 pub mod FaultText
 pub mod ImageTexts
 pub mod MapTexts
+pub mod MappedRun
 pub mod Numbers
 pub mod Program
 pub mod Run

@@ -3,6 +3,7 @@ use Rattle.std.specs.Prelude.{◌≡◌, ℕ, List, drop, ◌⊎◌}
 use Rattle.lk_run.specs.declared.status.Status.{Status}
 use Rattle.lk_run.specs.declared.status.Status.TheVariants.{NoMemory}
 use Rattle.lk_devices.specs.Device.{SourceState, SinkState}
+use Rattle.lk_run.specs.MappedRun.{IsMappedRun}
 use Rattle.lk_run.specs.Run.{IsRun}
 use Rattle.lk_run.specs.Status.{code_of}
 
@@ -16,6 +17,7 @@ pub record IsStopped (from to : SourceState) (before after : SinkState) (code : 
 pub record IsEnded (words : List (List ℕ)) (from to : SourceState) (before after : SinkState) (code : ℕ) : Type 0 where
   pub status : Status
   pub run : IsRun words from to before after status
+  pub mapped : IsMappedRun words from before after status
   pub ended : code ≡ code_of status
 
 -- a program that was started with these words, of which the first is its name

@@ -3,6 +3,7 @@ use Rattle.std.specs.Prelude.{◌≡◌, ℕ, ◌≤◌, List, Option, Some, Non
 use Rattle.lk_run.specs.declared.status.Status.{Status}
 use Rattle.lk_run.specs.declared.words.Command.{Command}
 use Rattle.lk_devices.specs.Device.{SourceState, SinkState}
+use Rattle.lk_run.specs.MappedRun.{IsMappedRun}
 use Rattle.lk_run.specs.Run.{IsRun}
 use Rattle.lk_run.specs.SoundRun.{IsSoundRun}
 use Rattle.lk_run.specs.Words.{IsCommand, workers_for}
@@ -19,3 +20,4 @@ abbrev pub IsRunAlone : List (List ℕ) → SourceState → SourceState → Sink
 IsRunAlone words from to before after None = AsksForWorkers words × (to ≡ from) × (after ≡ before)
 IsRunAlone words from to before after (Some status) =
     (AsksForWorkers words → ⊥) × IsRun words from to before after status × IsSoundRun words from before after status
+    × IsMappedRun words from before after status

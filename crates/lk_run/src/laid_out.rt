@@ -4,18 +4,20 @@ ghost use Rattle.std.specs.Prelude.{◌≤◌, IfOk};
 ghost use Rattle.lk_input.specs.Reading.{reading_of};
 ghost use Rattle.lk_layout.specs.Defined.{Gives};
 ghost use Rattle.lk_layout.specs.Machines.{small64_machine};
-ghost use Rattle.lk_run.specs.Run.{IsAnswerToReading, IsLayoutAnswer};
+ghost use Rattle.lk_run.specs.Run.{IsAnswerToReading};
+ghost use Rattle.lk_run.specs.Steps.{IsMappedAnswer};
 
 use crate::answer::{Answer, done, refused};
 use crate::fault_texts::fault_text;
 use crate::inputs::{Reading, read_up, read_up_by_workers};
 use lk_compute::{compute, compute_alone};
-use lk_layout::laws::laid_out_links_are_well_formed;
+use lk_layout::laws::{laid_out_links_are_well_formed, small64_machine_is_lawful};
 use lk_layout::{Layout, LayoutError, Small64Arch};
 use lk_link::gate::Gate;
 use lk_link::link::LinkInput;
 use lk_link::platform::Small64;
 use lk_report::{report_text, report_text_by_workers};
+use lk_report_maps::values::report_is_map;
 use std::alloc::{AllocError, Global};
 use std::mem;
 use std::sync::Wait;
@@ -28,12 +30,16 @@ fn answer_computed(
     computed: &Result<Layout<'_>, LayoutError>,
 ) -> Result<Answer, AllocError>
     requires { Gives small64_machine link.now computed.now }
-    ensures { IfOk result (IsLayoutAnswer link.now) }
+    ensures { IfOk result (IsMappedAnswer link.now) }
 {
-    // A law, which does nothing: what has a layout is well formed.
+    // Laws, which do nothing: what has a layout is well formed, and the small machine is lawful.
     laid_out_links_are_well_formed();
+    small64_machine_is_lawful();
     match computed {
-        Ok(layout) => Ok(done(report_text(alloc, link, layout)?)),
+        Ok(layout) => {
+            report_is_map(link, layout);
+            Ok(done(report_text(alloc, link, layout)?))
+        }
         Err(LayoutError::NoMemory) => Err(AllocError),
         Err(fault) => Ok(refused(fault_text(alloc, fault)?)),
     }
@@ -48,12 +54,16 @@ fn answer_by_workers<R: Threads + Sync>(
     workers: u32,
 ) -> Result<Answer, AllocError>
     requires { Gives small64_machine link.now computed.now }
-    ensures { IfOk result (IsLayoutAnswer link.now) }
+    ensures { IfOk result (IsMappedAnswer link.now) }
 {
-    // A law, which does nothing: what has a layout is well formed.
+    // Laws, which do nothing: what has a layout is well formed, and the small machine is lawful.
     laid_out_links_are_well_formed();
+    small64_machine_is_lawful();
     match computed {
-        Ok(layout) => Ok(done(report_text_by_workers(rt, alloc, link, layout, workers)?)),
+        Ok(layout) => {
+            report_is_map(link, layout);
+            Ok(done(report_text_by_workers(rt, alloc, link, layout, workers)?))
+        }
         Err(_) => answer_computed(alloc, link, computed),
     }
 }
@@ -77,7 +87,7 @@ pub(crate) fn answer_layout<R: Threads + Wait + Sync, G: Gate + Sync>(
     is_last: bool,
 ) -> Result<Answer, AllocError>
     requires gate { 2 ≤ workers → G.may_enter gate.now }
-    ensures { IfOk result (IsAnswerToReading IsLayoutAnswer (reading_of bytes.items)) }
+    ensures { IfOk result (IsAnswerToReading IsMappedAnswer (reading_of bytes.items)) }
 {
     match read_up_by_workers(rt, alloc, bytes, workers)? {
         Reading::Link(link) => {
@@ -94,7 +104,7 @@ pub(crate) fn answer_layout<R: Threads + Wait + Sync, G: Gate + Sync>(
 
 /// The same on the caller's own thread.
 pub(crate) fn answer_layout_alone(alloc: Global, bytes: Vec<u8>) -> Result<Answer, AllocError>
-    ensures { IfOk result (IsAnswerToReading IsLayoutAnswer (reading_of bytes.items)) }
+    ensures { IfOk result (IsAnswerToReading IsMappedAnswer (reading_of bytes.items)) }
 {
     match read_up(alloc, bytes)? {
         Reading::Link(link) => {

@@ -4,10 +4,11 @@
 //! then writes: so want of memory and a failing source leave the sink as it was.
 
 ghost use Rattle.std.specs.Prelude.{◌≡◌, ◌↔◌, ◌≤◌, map, string_bytes, IfOk, IsTrue};
-ghost use Rattle.lk_run.specs.Run.{IsAnswerOf, IsAnswerTo, IsRun};
+ghost use Rattle.lk_run.specs.MappedRun.{IsMappedRun};
+ghost use Rattle.lk_run.specs.Run.{IsRun};
 ghost use Rattle.lk_run.specs.RunAlone.{AsksForWorkers, IsRunAlone};
 ghost use Rattle.lk_run.specs.SoundRun.{IsSoundRun};
-ghost use Rattle.lk_run.specs.Steps.{CanBeAsked, held_by, IsCommandRun, IsMadeTold, IsToldBy, IsUsageRun};
+ghost use Rattle.lk_run.specs.Steps.{CanBeAsked, held_by, IsCommandRun, IsMadeFor, IsMadeOf, IsMadeTold, IsMappedCommand, IsToldBy, IsUsageRun};
 ghost use Rattle.lk_run.specs.Words.{workers_for};
 
 use crate::answer::Answer;
@@ -39,7 +40,7 @@ fn answer_bytes<R: Threads + Wait + Sync, G: Gate + Sync>(
 ) -> Result<Answer, AllocError>
     requires gate { 2 ≤ workers_for command → G.may_enter gate.now }
     requires asked { CanBeAsked command }
-    ensures { IfOk result (IsAnswerOf command bytes.items) }
+    ensures { IfOk result (IsMadeOf command bytes.items) }
 {
     match command {
         Command::Layout(workers) => answer_layout(rt, alloc, workers, bytes, gate, is_last),
@@ -53,7 +54,7 @@ fn answer_bytes<R: Threads + Wait + Sync, G: Gate + Sync>(
 /// The same on the caller's own thread, however many workers the command asks for.
 fn answer_bytes_alone(alloc: Global, command: Command, bytes: Vec<u8>) -> Result<Answer, AllocError>
     requires { CanBeAsked command }
-    ensures { IfOk result (IsAnswerOf command bytes.items) }
+    ensures { IfOk result (IsMadeOf command bytes.items) }
 {
     match command {
         Command::Layout(_) => answer_layout_alone(alloc, bytes),
@@ -75,7 +76,7 @@ fn answer<R: Threads + Wait + Sync, G: Gate + Sync>(
 ) -> Result<Answer, AllocError>
     requires gate { 2 ≤ workers_for command → G.may_enter gate.now }
     requires asked { CanBeAsked command }
-    ensures { IfOk result (IsAnswerTo command (held_by input)) }
+    ensures { IfOk result (IsMadeFor command (held_by input)) }
 {
     match input {
         CommandInput::Bytes(bytes) => answer_bytes(rt, alloc, command, bytes, gate, is_last),
@@ -86,7 +87,7 @@ fn answer<R: Threads + Wait + Sync, G: Gate + Sync>(
 /// The same on the caller's own thread.
 fn answer_alone(alloc: Global, command: Command, input: CommandInput) -> Result<Answer, AllocError>
     requires { CanBeAsked command }
-    ensures { IfOk result (IsAnswerTo command (held_by input)) }
+    ensures { IfOk result (IsMadeFor command (held_by input)) }
 {
     match input {
         CommandInput::Bytes(bytes) => answer_bytes_alone(alloc, command, bytes),
@@ -126,7 +127,8 @@ fn run_command<R: Threads + Wait + Sync, S: Source, K: Sink, G: Gate + Sync>(
 ) -> Status
     requires gate { 2 ≤ workers_for command → G.may_enter gate.now }
     requires asked { CanBeAsked command }
-    ensures { IsCommandRun command (S.state source.old) (S.state source.new) (K.state sink.old) (K.state sink.new) result }
+    ensures run { IsCommandRun command (S.state source.old) (S.state source.new) (K.state sink.old) (K.state sink.new) result }
+    ensures mapped { IsMappedCommand command (S.state source.old) (K.state sink.old) (K.state sink.new) result }
 {
     match read_for(alloc, command, source) {
         Ok(input) => tell_made(answer(rt, alloc, command, input, gate, is_last), sink),
@@ -142,7 +144,8 @@ fn run_command_alone<S: Source, K: Sink>(
     sink: &mut K,
 ) -> Status
     requires { CanBeAsked command }
-    ensures { IsCommandRun command (S.state source.old) (S.state source.new) (K.state sink.old) (K.state sink.new) result }
+    ensures run { IsCommandRun command (S.state source.old) (S.state source.new) (K.state sink.old) (K.state sink.new) result }
+    ensures mapped { IsMappedCommand command (S.state source.old) (K.state sink.old) (K.state sink.new) result }
 {
     match read_for(alloc, command, source) {
         Ok(input) => tell_made(answer_alone(alloc, command, input), sink),
@@ -172,7 +175,8 @@ pub(crate) fn run_words<R: Threads + Wait + Sync, S: Source, K: Sink, G: Gate + 
     is_last: bool,
 ) -> Status
     requires gate { AsksForWorkers (map string_bytes words.now) → G.may_enter gate.now }
-    ensures { IsRun (map string_bytes words.now) (S.state source.old) (S.state source.new) (K.state sink.old) (K.state sink.new) result }
+    ensures run { IsRun (map string_bytes words.now) (S.state source.old) (S.state source.new) (K.state sink.old) (K.state sink.new) result }
+    ensures mapped { IsMappedRun (map string_bytes words.now) (S.state source.old) (K.state sink.old) (K.state sink.new) result }
 {
     match read_words(words) {
         Some(command) => run_command(rt, alloc, command, source, sink, gate, is_last),
@@ -187,7 +191,8 @@ fn run_words_alone<S: Source, K: Sink>(
     source: &mut S,
     sink: &mut K,
 ) -> Status
-    ensures { IsRun (map string_bytes words.now) (S.state source.old) (S.state source.new) (K.state sink.old) (K.state sink.new) result }
+    ensures run { IsRun (map string_bytes words.now) (S.state source.old) (S.state source.new) (K.state sink.old) (K.state sink.new) result }
+    ensures mapped { IsMappedRun (map string_bytes words.now) (S.state source.old) (K.state sink.old) (K.state sink.new) result }
 {
     match read_words(words) {
         Some(command) => run_command_alone(alloc, command, source, sink),
@@ -220,6 +225,7 @@ pub fn run<R: Threads + Wait + Sync, S: Source, K: Sink, G: Gate + Sync>(
     ensures run_theorem { IsRun (map string_bytes words.now) (S.state source.old) (S.state source.new)
         (K.state sink.old) (K.state sink.new) result }
     ensures sound { IsSoundRun (map string_bytes words.now) (S.state source.old) (K.state sink.old) (K.state sink.new) result }
+    ensures mapped { IsMappedRun (map string_bytes words.now) (S.state source.old) (K.state sink.old) (K.state sink.new) result }
 {
     runs_are_sound();
     run_words(rt, alloc, words, source, sink, gate, false)
