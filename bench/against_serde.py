@@ -7,7 +7,7 @@ import subprocess
 HERE = os.path.dirname(os.path.abspath(__file__))
 REGISTRY = "/usr/share/cargo/registry"
 PACKAGES = "librust-serde-dev librust-serde-derive-dev librust-serde-json-dev librust-hex-dev"
-SHAPES = ("linked", "objects", "chain", "tabled", "grouped")
+SHAPES = ("linked", "objects", "chain", "tabled", "grouped", "tenth")
 MEGABYTES = 100
 
 

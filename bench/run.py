@@ -149,11 +149,14 @@ ours, serde: processor seconds of reading a description of 100 MB, ours with its
 then the peak memory. Aim: 1.1 times serde's, 1.15 on tabled.
 """
 
-WORKERS_COLUMNS = (("workers", 7), ("clock", 6), ("rest", 6), ("of 0 in its round", 18), ("processors of 0", 16), ("peak", 6), ("of 0", 6))
+WORKERS_COLUMNS = (
+    ("workers", 7), ("clock", 6), ("of 0 in its round", 18), ("seconds", 8),
+    ("rest", 6), ("of 0 in its round", 18), ("seconds", 8), ("peak", 6), ("of 0", 6),
+)
 WORKERS_LEGEND = """\
-clock: seconds by the clock, the least of all rounds; rest: the least of those after reading; of 0 in its round: these as a
-part of those with 0 workers in the same round, the least, the middle and the greatest; processors of 0: the seconds of all
-processors after reading likewise, the middle; peak: memory in MB.
+clock: seconds by the clock, the least of all rounds; of 0 in its round: the clock as a part of that with 0 workers in the same
+round, the least, the middle and the greatest; seconds: those of all processors likewise, the middle; rest: the least of the clock
+after reading, and then the same two of it; peak: memory in MB.
 """
 
 LONG_COLUMNS = (("items", 9), ("MB", 6), ("seconds", 8), ("ms/MB", 7), ("peak MB", 8), ("peak", 6))
@@ -426,9 +429,11 @@ def worker_rows(program, path, output, timer, count):
         yield (
             workers,
             "%.2f" % some.clock,
+            "%.2f, %.2f, %.2f" % some.clock_of_alone,
+            "%.2f" % some.seconds_of_alone,
             "%.2f" % some.rest,
-            "%.2f, %.2f, %.2f" % some.of_alone,
-            "%.2f" % some.processors,
+            "%.2f, %.2f, %.2f" % some.rest_of_alone,
+            "%.2f" % some.rest_seconds_of_alone,
             "%.0f" % (some.peak / 1e6),
             "%.2f" % (some.peak / alone.peak),
         )

@@ -53,11 +53,16 @@ class Runs:
     """The runs of one description by some workers, a run for each round, beside those of none."""
 
     def __init__(self, runs, alone):
+        def of_alone(measure):
+            return spread(measure(run) / measure(other) for run, other in zip(runs, alone))
+
         self.clock = min(run.clock for run in runs)
         self.peak = max(run.peak for run in runs)
         self.rest = min(run.rest for run in runs)
-        self.of_alone = spread(run.rest / other.rest for run, other in zip(runs, alone))
-        self.processors = spread(run.processors / other.processors for run, other in zip(runs, alone))[1]
+        self.clock_of_alone = of_alone(lambda run: run.clock)
+        self.seconds_of_alone = of_alone(lambda run: run.seconds)[1]
+        self.rest_of_alone = of_alone(lambda run: run.rest)
+        self.rest_seconds_of_alone = of_alone(lambda run: run.processors)[1]
 
 
 def rounds(measured, count):
