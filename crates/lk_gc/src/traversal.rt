@@ -21,7 +21,8 @@ use std::thread::Threads;
 /// How that is found no clause says. With 0 or 1 workers it is on the caller's own thread. Others have a thread each, of which the
 /// caller's is one, or run one after the other where none can be made; the caller waits for all: one takes a group of files that can run and goes on with it until nothing is left to do there; what other groups
 /// have to do is left in their slots, and a group that was left something can run again. The gate is entered before each step. A
-/// worker that finds no memory gives up what it was about to do and goes on; the answer is then that memory ran out. Behind them
+/// worker that finds no memory gives up what it was about to do and goes on; where an ask is open at the end, the answer is that memory
+/// ran out. Behind them
 /// references at fault are looked for group by group, in two pieces for each processor, 64 at most, whatever the number of workers. That takes
 /// what `Traversal::new` takes, and what waits for groups; then a byte for each symbol, and what is at fault, twice while the lists of
 /// groups are joined.

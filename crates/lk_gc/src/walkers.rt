@@ -1,8 +1,8 @@
 //! How many workers look for what is reached.
 //!
 //! A worker goes through a list of asks once for each unit that asks for it; a walk on one thread goes through it for the first one alone.
-//! Where a long list is shared by many units, workers would take the product of the two numbers, so for such a link 1 is
-//! answered at most, of which no clause tells.
+//! Where a long list is shared by many units, workers would take the product of the two numbers, so where a quick look can't rule that
+//! out 1 is answered at most, of which no clause tells.
 
 ghost use Rattle.std.specs.Prelude.{◌≡◌, ◌≤◌, ◌⊎◌, min};
 
@@ -16,7 +16,7 @@ pub const MOST_WORKERS: u32 = 64;
 const SHORT: usize = 64;
 
 /// How many workers look for what is reached of a link, where so many are asked for: these, but 64 at most; or 1 at most, where many
-/// units share a long list of asks. Which of both it is no clause says. Nor does one say how much it looks at: each file at most
+/// units may share a long list of asks. Which of both it is no clause says. Nor does one say how much it looks at: each file at most
 /// once, and symbols and sections of those whose lists may be long. Takes no memory.
 pub fn walkers(link: &LinkInput, workers: u32) -> u32
     ensures few { result ≤ 64 }
@@ -31,8 +31,8 @@ pub fn walkers(link: &LinkInput, workers: u32) -> u32
     }
 }
 
-/// Whether more than 64 units ask for the same list, and that is longer than 64: the members of a section group do, symbols at the edges of
-/// an output section with many candidates in their file, and scripts, each for what the location counter's expressions refer to.
+/// Whether more than 64 units may ask for lists longer than 64: the members of a section group do, symbols at edges of output sections
+/// with so many candidates in their file, and scripts, each for what the location counter's expressions refer to, however little that is.
 fn shares_long_lists(link: &LinkInput) -> bool {
     let mut scripts: usize = 0;
     for group in link.groups.as_slice() {
@@ -48,7 +48,7 @@ fn shares_long_lists(link: &LinkInput) -> bool {
     false
 }
 
-/// Whether units of a file share a long list among themselves.
+/// Whether units of a file may share a long list among themselves.
 fn has_long_lists(file: &InputFile) -> bool {
     has_long_group(&file.sections)
         || (file.kind.is_synthetic() && has_long_edges(&file.candidates, file.symbols.as_slice()))

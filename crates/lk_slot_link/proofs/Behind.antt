@@ -132,7 +132,10 @@ pub steps_are_sound_in : StepsAreSoundIn
 steps_are_sound_in link steps st wf h =
     let sound = steps_are_sound (graph_of link) steps st h in
     record {
-      reached = λ unit is done. unit_meant link unit wf is (sound.reached ((graph_of link).group_of (unit_number link.groups unit)) (unit_number link.groups unit) done).0;
+      reached = λ g n done.
+          let found = sound.reached g n done in
+          let at = reached_at link wf found.0 in
+          (at.unit, at.there, at.reached, ap (unit_group link.groups) (sym at.there) ∙ found.1);
       flags = λ s i bit. flag_meant link s i wf (sound.flags s i bit);
       awake = sound.awake;
     }

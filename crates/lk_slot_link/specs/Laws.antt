@@ -9,7 +9,7 @@ use Rattle.lk_slots.specs.Laws.{NothingGivenUp}
 use Rattle.lk_slots.specs.Machine.{LeadTo, State, Step}
 use Rattle.lk_slots.specs.Reach as graph
 use Rattle.lk_slots.specs.States.{HasBit, IsDone, IsQuiet}
-use Rattle.lk_slot_link.specs.LinkGraphs.{graph_of}
+use Rattle.lk_slot_link.specs.LinkGraphs.{graph_of, unit_group}
 
 -- the graph of a well-formed link is whole
 abbrev pub GraphsAreWhole : Type 0
@@ -23,10 +23,11 @@ pub record IsSameReach : Type 0 where
       → (unit : LinkUnit) × (unit_at link.groups n ≡ Some unit) × IsReached link unit
   pub flags : (link : LinkInput) (s i : ℕ) → IsWellFormed link → graph.HasFlag (graph_of link) s i ↔ HasFlag link s i
 
--- whatever the steps and their order: what is done is reached, what is in words are flags, and no group is parked with something
--- waiting
+-- whatever the steps and their order: what a group has done are units of its own that are reached, what is in words are flags, and
+-- no group is parked with something waiting
 pub record IsSoundIn (link : LinkInput) (st : State) : Type 0 where
-  pub reached : (unit : LinkUnit) → IsUnit link.groups unit → IsDone (graph_of link) st (unit_number link.groups unit) → IsReached link unit
+  pub reached : (g n : ℕ) → (st.groups g).done n ≡ true
+      → (unit : LinkUnit) × (unit_at link.groups n ≡ Some unit) × IsReached link unit × (unit_group link.groups (Some unit) ≡ g)
   pub flags : (s i : ℕ) → HasBit st s i → HasFlag link s i
   pub awake : (g : ℕ) → (st.slots g).parked ≡ true → (st.slots g).inbox ≡ []
 

@@ -10,7 +10,7 @@ use Rattle.lk_reach.specs.Marks.{IsClosed, IsMarked, all_units, asking, flag_wor
 abbrev pub lists_of : LinkInput → Lists
 lists_of link = record { groups = link.groups; units = reached_marks link; handed = handed_in link; words = flag_words link }
 
--- marks within what is reached, and words within its flags that have what was handed in
+-- as many marks, within what is reached, and as many words, within its flags, that have what was handed in
 pub record AreInside (l : Lists) (marks : List Bool) (words : List ℕ) : Type 0 where
   pub marks_count : length marks ≡ length l.units
   pub words_count : length words ≡ length l.words

@@ -14,8 +14,8 @@ pub fn same_reach()
     ensures { IsSameReach }
 {}
 
-/// A law, of a well-formed link, for every list of steps: what is done is reached in the link, what is in words are its flags, and no
-/// group is parked with something waiting.
+/// A law, of a well-formed link, for every list of steps: what a group has done are units of its own that are reached in the link, what
+/// is in words are its flags, and no group is parked with something waiting.
 pub fn steps_are_sound_in()
     ensures { StepsAreSoundIn }
 {}
@@ -26,8 +26,8 @@ pub fn quiet_states_are_all()
     ensures { QuietStatesAreAll }
 {}
 
-/// A law: in the lists of a well-formed link all that a reached unit asks for is reached, and marks and words inside them that are
-/// closed are all of them.
+/// A law: in the lists of a well-formed link all that a reached unit asks for is reached, and marks and words inside them, as many as
+/// they have, that are closed are all of them.
 pub fn lists_fit()
     ensures { ListsFit }
 {}

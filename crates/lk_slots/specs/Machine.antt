@@ -178,7 +178,7 @@ SetsFlags (Refer t f) s flags = (t ≡ s) × (f ≡ flags)
 SetsFlags (Mark t f) s flags = (t ≡ s) × (f ≡ flags)
 SetsFlags (Request x) s flags = ⊥
 
--- a reference asks for its symbol where it has no flags, or gives the symbol its first resolution
+-- a reference asks for its symbol where it has no flags, or the word that it found gives the symbol no resolution
 abbrev pub request_for : Graph → ℕ → ℕ → ℕ → List Task
 request_for graph word s flags = if (flags == 0) || not (graph.resolves word) then Request (Load s) ∷ [] else []
 

@@ -33,7 +33,7 @@ is_asked flags found = (flags.0 == 0) || not (has_resolution found)
 abbrev pub flags_set : ℕ → ValueFlags → ℕ → FlagSet
 flags_set s flags found = record { word = word_of s; bits = flags.0; found = found }
 
--- a symbol gets its flags, and is asked for where the word that was found had no resolution
+-- a symbol gets its flags, and is asked for where these are none, or the word that was found had no resolution
 pub record Refers (groups : List (List InputFile)) (s : ℕ) (flags : ValueFlags) (old new : StateValue) (before after : List FlagSet) : Type 0 where
   pub found : ℕ
   pub sets : after ≡ before ++ flags_set s flags found ∷ []

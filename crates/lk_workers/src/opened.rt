@@ -1,8 +1,10 @@
 //! What states had done as they came out of their locks.
 
-ghost use Rattle.std.specs.Prelude.{◌≡◌, ◌++◌, ◌∷◌, [], List};
+ghost use Rattle.std.specs.Prelude.{◌≡◌, ◌++◌, ◌∷◌, ◌||◌, ℕ, [], List};
 ghost use Rattle.std.specs.Borrow.{ftrue};
-ghost use Rattle.lk_workers.specs.States.{Ranged};
+ghost use Rattle.lk_link.specs.Marks.{is_marked};
+ghost use Rattle.lk_workers.specs.Asked.{AreReached};
+ghost use Rattle.lk_workers.specs.States.{Ranged, is_in};
 
 use crate::marks::Marks;
 use crate::state::GroupState;
@@ -36,12 +38,20 @@ impl Opened {
         Opened {}
     }
 
-    /// Takes a state out of its lock, and adds what is done in it.
-    pub(crate) fn open<J: Reach>(&mut self, lock: Mutex<GroupState<J>>) -> GroupState<J>
-        ensures { self.new.marks ≡ self.old.marks ++ result.symbols ∷ result.sections ∷ [] }
+    /// Takes a state out of its lock, adds which of its symbols and of its sections are done, and sets their marks in a list that has one
+    /// for every unit. These marks are all that is left of the state, so none is opened twice.
+    pub(crate) fn open<J: Reach>(
+        &mut self,
+        lock: Mutex<GroupState<J>>,
+        room: &mut Vec<bool>,
+    ) -> (Marks, Marks)
+        requires { AreReached J.lists room.old.items }
+        ensures marks { self.new.marks ≡ self.old.marks ++ result.0 ∷ result.1 ∷ [] }
+        ensures reached { AreReached J.lists room.new.items }
+        ensures done { (n : ℕ) → is_marked room.new.items n ≡ is_marked room.old.items n || (is_in result.0 n || is_in result.1 n) }
     {
-        let state = lock.into_inner();
-        *self = self.and(state.symbols()).and(state.sections());
-        state
+        let (symbols, sections) = lock.into_inner().gather(room);
+        *self = self.and(&symbols).and(&sections);
+        (symbols, sections)
     }
 }

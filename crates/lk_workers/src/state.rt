@@ -1,6 +1,6 @@
 //! The state of a group, and the steps that it takes.
 
-ghost use Rattle.std.specs.Prelude.{◌≡◌, ◌++◌, ◌∷◌, ◌||◌, ℕ, [], false, true, IfNone, IfOk, IfSome, MatchBool, OnErr, OnOk, Some};
+ghost use Rattle.std.specs.Prelude.{◌≡◌, ◌++◌, ◌∷◌, ◌||◌, ℕ, [], All, false, true, IfNone, IfOk, IfSome, MatchBool, OnErr, OnOk, Some};
 ghost use Rattle.std.specs.Option.{is_some};
 ghost use Rattle.lk_reach.specs.declared.units.Ask.TheVariants as ask;
 ghost use Rattle.lk_link.specs.Marks.{is_marked};
@@ -8,7 +8,7 @@ ghost use Rattle.lk_reach.specs.Marks.{IsMarked, IsUnit, unit_at, unit_number};
 ghost use Rattle.lk_slot_link.specs.LinkGraphs.{group_roots, unit_group};
 ghost use Rattle.lk_workers.specs.Asked.{AreMet, AreReached, IsMet};
 ghost use Rattle.lk_slots.specs.Machine.{Parks, Swaps};
-ghost use Rattle.lk_workers.specs.Items.{IsMeant, IsOwn, machine_items, slot_of};
+ghost use Rattle.lk_workers.specs.Items.{IsMeant, IsOwn, machine_items, slot_of, unit_of};
 ghost use Rattle.lk_workers.specs.States.{DoesOne, activated, has_number, is_done, is_in, with_items};
 ghost use Rattle.lk_workers.specs.Steps.{DoesAsk, DoesAsks, DoesItem, DoesSome, DoesUnit, GivesItemUp, GivesUnitUp, IsGivenUp, IsStep, IsStepGivenUp, PassesOn, Refers, is_asked};
 
@@ -72,20 +72,6 @@ impl<J: Reach> GroupState<J> {
         ensures { result ≡ self.now.group }
     {
         self.group
-    }
-
-    /// Which of its symbols are done.
-    pub(crate) fn symbols(&self) -> &Marks
-        ensures { result.now ≡ self.now.symbols }
-    {
-        &self.symbols
-    }
-
-    /// Which of its sections are done.
-    pub(crate) fn sections(&self) -> &Marks
-        ensures { result.now ≡ self.now.sections }
-    {
-        &self.sections
     }
 
     /// Passes an item on: to the group's own list, or, noted as left, to a slot of the group that it belongs to. Without memory it is given
@@ -325,7 +311,9 @@ impl<J: Reach> GroupState<J> {
     }
 
     /// Activates the group, or takes an item of its own, and does all that it asks for; answers whether there was either. Without
-    /// memory the rest of those asks is given up, or the item, and nothing else (libwild: `GroupState::do_pending_work`).
+    /// memory the rest of those asks is given up, or the item, and nothing else. Its items are units of the link, as the laws on steps
+    /// ask (libwild: `GroupState::do_pending_work`).
+    #[tactic(auto, using(crate::proofs::Asked::own_units))]
     pub fn step<R: Wait>(
         &mut self,
         traversal: &Traversal<'_, J>,
@@ -339,6 +327,7 @@ impl<J: Reach> GroupState<J> {
             (IsStep J.lists.groups traversal.now.link self.old self.new pass.old.sets pass.new.sets)
             ((self.old.active ≡ true) × (self.old.items ≡ []) × (self.new ≡ self.old) × (pass.new.sets ≡ pass.old.sets))) }
         ensures given_up { OnErr result (IsStepGivenUp J.lists.groups traversal.now.link self.old self.new pass.old.sets pass.new.sets) }
+        ensures units { All (λ item. IsUnit traversal.now.link.groups (unit_of item)) self.old.items }
         ensures group { self.new.group ≡ self.old.group }
     {
         if !self.active {
@@ -367,14 +356,26 @@ impl<J: Reach> GroupState<J> {
         slot.park_or_swap(&mut self.items)
     }
 
-    /// Sets the marks of what is done in a list that has one for every unit; those that it has stay.
-    pub(crate) fn gather(self, room: &mut Vec<bool>)
+    /// Which of its symbols and of its sections are done; their marks are set in a list that has one for every unit, and those that it
+    /// has stay.
+    pub(crate) fn gather(self, room: &mut Vec<bool>) -> (Marks, Marks)
         requires { AreReached J.lists room.old.items }
         ensures reached { AreReached J.lists room.new.items }
         ensures marks { (n : ℕ) → is_marked room.new.items n ≡ is_marked room.old.items n || is_done self n }
+        ensures done { (result.0 ≡ self.symbols) × (result.1 ≡ self.sections) }
     {
-        self.symbols.gather(room);
-        self.sections.gather(room);
+        let GroupState {
+            group: _,
+            active: _,
+            items: _,
+            symbols,
+            sections,
+            sent: _,
+            of: _,
+        } = self;
+        symbols.gather(room);
+        sections.gather(room);
+        (symbols, sections)
     }
 }
 

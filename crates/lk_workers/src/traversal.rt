@@ -156,7 +156,7 @@ fn gather<J: Reach>(states: Vec<Mutex<GroupState<J>>>, room: &mut Vec<bool>) -> 
 {
     let mut opened = Opened::new();
     for state in states {
-        opened.open(state).gather(room);
+        let _done = opened.open(state, room);
     }
     opened
 }
@@ -361,8 +361,8 @@ impl<J: Reach> Traversal<'_, J> {
 
     /// Leaves an item in a slot of its group, and adds it to what was sent. Without memory, or without such a slot, the item is given up,
     /// and what was sent stays as it is. No clause says that the slot is the one that the group looks into, that the item is left once,
-    /// or that it, and what waited there before, waits there behind the call; nor that a group that had parked can run from then on;
-    /// where there is no memory to note that it can, what it was left stays undone.
+    /// or that it, and what waited there before, waits there behind the call, nor, where it isn't left, that no slot has it; nor that a
+    /// group that had parked can run from then on; where there is no memory to note that it can, what it was left stays undone.
     pub fn send<R: Wait>(
         &self,
         rt: &R,

@@ -108,7 +108,7 @@ impl LocalWorkQueue {
         self.items.pop()
     }
 
-    /// Adds an item for each of these asks. Without memory all stays as it is.
+    /// Adds an item for each of these asks that isn't a mark. Without memory all stays as it is.
     pub fn add(&mut self, asks: Successors<'_>) -> Result<(), AllocError>
         ensures added { OnOk result (self.new ≡ self.old ++ items_of asks.entry) }
         ensures kept { OnErr result (self.new ≡ self.old) }
@@ -121,7 +121,7 @@ impl LocalWorkQueue {
         added
     }
 
-    /// Adds an item for each of these asks, for as many as there is memory.
+    /// Adds an item for each of these asks that isn't a mark, for as many as there is memory.
     fn add_all(&mut self, asks: Successors<'_>) -> Result<(), AllocError>
         ensures added { OnOk result (self.new ≡ self.old ++ items_of asks.entry) }
         ensures kept { take (length self.old) self.new ≡ self.old }

@@ -38,7 +38,7 @@ fn work<J: Reach, R: Wait, G: Gate>(
 }
 
 /// Has so many workers run all groups, and waits for them, of which no clause tells. Answers a pass that has set all that theirs set: it
-/// has as many parts as the one that is handed in, of which each worker's has one. With no worker nothing is set.
+/// has as many parts as the one that is handed in. With no worker that pass has set nothing more.
 #[tactic(auto, using(crate::proofs::GoingOn::joined_on))]
 pub fn run_all<J: Reach + Send + Sync, R: Threads + Wait + Sync, G: Gate + Sync>(
     traversal: &Traversal<'_, J>,
@@ -105,8 +105,8 @@ fn walk<J: Reach + Send + Sync, R: Threads + Wait + Sync, G: Gate + Sync>(
 }
 
 /// What is reached of a link: for each unit whether it is, and behind a spare word the flags of each symbol. How that is found no clause
-/// says: by so many workers, but one for each group at most, each on a thread, of which the caller's is one, which enter the gate before each
-/// step. A worker that finds no memory gives up what it was about to do, and goes on; where anything is open at the end, the answer is that
+/// says: by so many workers, but one for each group at most, each on a thread where one can be made, of which the caller's is one, which enter the
+/// gate before each step. A worker that finds no memory gives up what it was about to do, and goes on; where anything is open at the end, the answer is that
 /// memory ran out. So it is with no worker where anything is asked for; of that a clause says that then it answers `Ok` only where all
 /// flags are those that are handed in (libwild: `traverse_reference_graph`).
 pub fn walk_by_workers<R: Threads + Wait + Sync, G: Gate + Sync>(
