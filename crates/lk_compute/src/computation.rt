@@ -323,13 +323,13 @@ fn finish<'data, J: Finds<'data>>(
     requires addressed { IsAddressedLink (J.machine job.now) (J.link job.now) addressed }
     ensures { Gives (J.machine job.now) (J.link job.now) result }
 {
-    let reaching = reach(alloc, job, addressed)?;
-    let told = tell(alloc, job, reaching)?;
+    let reaching = find_thunk_places(alloc, job, addressed)?;
+    let told = complete(alloc, job, reaching)?;
     Ok(job.layout(told))
 }
 
 /// Finds where the thunks of each block begin, and looks at branches, and then at what relaxation deleted.
-fn reach<'data, J: Finds<'data>>(
+fn find_thunk_places<'data, J: Finds<'data>>(
     alloc: Global,
     job: &J,
     addressed: AddressedLink<'data>,
@@ -348,7 +348,7 @@ fn reach<'data, J: Finds<'data>>(
 
 /// Finds what is told beside that: attributes, what is known of output that is linked again, the owners of blocks, and where groups begin
 /// in the tables of symbols.
-fn tell<'data, J: Finds<'data>>(
+fn complete<'data, J: Finds<'data>>(
     alloc: Global,
     job: &J,
     reaching: ReachingLink<'data>,
@@ -356,7 +356,7 @@ fn tell<'data, J: Finds<'data>>(
     requires reaching { IsReachingLink (J.machine job.now) (J.link job.now) reaching }
     ensures { Reaches (J.machine job.now) (J.link job.now) (IsToldLink (J.machine job.now) (J.link job.now)) result }
 {
-    match job.told(alloc, &reaching) {
+    match job.completed(alloc, &reaching) {
         Ok((attributes, partial_link, block_owners, group_starts)) => Ok(ToldLink {
             reaching,
             attributes,

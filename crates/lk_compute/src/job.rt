@@ -187,7 +187,7 @@ pub(crate) trait Finds<'data> {
 
     /// Finds what is told beside that: attributes, what is known of output that is linked again, the owners of blocks, and where
     /// groups begin in the tables of symbols.
-    fn told(
+    fn completed(
         &self,
         alloc: Global,
         reaching: &ReachingLink<'data>,
@@ -436,7 +436,7 @@ impl<'a, 'data, P: Platform, A: Arch> Finds<'data> for Job<'a, 'data, P, A> {
         Ok(places)
     }
 
-    fn told(
+    fn completed(
         &self,
         alloc: Global,
         reaching: &ReachingLink<'data>,

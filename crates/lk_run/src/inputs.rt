@@ -57,7 +57,7 @@ pub(crate) fn read_for<S: Source>(
 }
 
 /// The link that was read of bytes, or the answer that tells why they describe none.
-fn told_reading(
+fn link_or_answer(
     alloc: Global,
     _bytes: &[u8],
     read: Result<LinkInput, InputError>,
@@ -77,7 +77,7 @@ pub(crate) fn read_up(alloc: Global, bytes: Vec<u8>) -> Result<Reading, AllocErr
     ensures { IfOk result (IsReadAs (reading_of bytes.items)) }
 {
     let text = bytes.as_slice();
-    told_reading(alloc, text, read_link(alloc, text))
+    link_or_answer(alloc, text, read_link(alloc, text))
 }
 
 /// The same, read by so many workers.
@@ -95,7 +95,7 @@ pub(crate) fn read_up_by_workers<R: Threads + Sync>(
     } else {
         read_link_by_workers(rt, alloc, text, usize::from(workers))
     };
-    told_reading(alloc, text, read)
+    link_or_answer(alloc, text, read)
 }
 
 /// The answer to an input that is too long.

@@ -96,7 +96,7 @@ fn answer_alone(alloc: Global, command: Command, input: CommandInput) -> Result<
 }
 
 /// Writes the bytes of an answer: its status, or that the sink failed.
-fn tell<K: Sink>(sink: &mut K, answer: &Answer) -> Status
+fn write_answer<K: Sink>(sink: &mut K, answer: &Answer) -> Status
     ensures { IsToldBy result answer.now (K.state sink.old) (K.state sink.new) }
 {
     match write_all(sink, answer.bytes.as_slice()) {
@@ -105,12 +105,12 @@ fn tell<K: Sink>(sink: &mut K, answer: &Answer) -> Status
     }
 }
 
-/// Tells an answer, if memory didn't run out over it.
-fn tell_made<K: Sink>(answer: Result<Answer, AllocError>, sink: &mut K) -> Status
+/// Writes an answer, if memory didn't run out over it.
+fn write_made<K: Sink>(answer: Result<Answer, AllocError>, sink: &mut K) -> Status
     ensures { IsMadeTold answer result (K.state sink.old) (K.state sink.new) }
 {
     match answer {
-        Ok(answer) => tell(sink, &answer),
+        Ok(answer) => write_answer(sink, &answer),
         Err(_) => Status::NoMemory,
     }
 }
@@ -131,7 +131,7 @@ fn run_command<R: Threads + Wait + Sync, S: Source, K: Sink, G: Gate + Sync>(
     ensures mapped { IsMappedCommand command (S.state source.old) (K.state sink.old) (K.state sink.new) result }
 {
     match read_for(alloc, command, source) {
-        Ok(input) => tell_made(answer(rt, alloc, command, input, gate, is_last), sink),
+        Ok(input) => write_made(answer(rt, alloc, command, input, gate, is_last), sink),
         Err(status) => status,
     }
 }
@@ -148,7 +148,7 @@ fn run_command_alone<S: Source, K: Sink>(
     ensures mapped { IsMappedCommand command (S.state source.old) (K.state sink.old) (K.state sink.new) result }
 {
     match read_for(alloc, command, source) {
-        Ok(input) => tell_made(answer_alone(alloc, command, input), sink),
+        Ok(input) => write_made(answer_alone(alloc, command, input), sink),
         Err(status) => status,
     }
 }

@@ -11,7 +11,7 @@ use Rattle.lk_sizes.specs.Contents.{contents_of}
 use Rattle.lk_layout.specs.Made.{Made, made_filling}
 use Rattle.lk_layout.specs.Stages.{made_reaching}
 use Rattle.lk_resolutions.proofs.PartCounts.{length-by_part}
-use Rattle.lk_compute.proofs.job.JobFinds.told.Goals as goal
+use Rattle.lk_compute.proofs.job.JobFinds.completed.Goals as goal
 
 pub attributes_of_contents-requires-clause-count : goal.attributes_of_contents-requires-clause-count
 attributes_of_contents-requires-clause-count g c =
