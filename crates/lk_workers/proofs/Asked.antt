@@ -6,7 +6,6 @@ use Rattle.std.proofs.lemmas.List.Elements.{All-contains, Contains-get_or}
 use Rattle.lk_flags.specs.Lists.{Lists}
 use Rattle.lk_link.specs.declared.flags.TheConstants.ValueFlags as flag
 use Rattle.lk_link.specs.declared.flags.ValueFlags.{ValueFlags}
-use Rattle.lk_link.specs.declared.file.InputFile.{InputFile}
 use Rattle.lk_link.specs.declared.ids.FileId.{FileId}
 use Rattle.lk_link.specs.declared.link.LinkInput.{LinkInput}
 use Rattle.lk_link.specs.Files.{file_in}
@@ -27,17 +26,8 @@ use Rattle.lk_slot_link.specs.LinkLists.{lists_of}
 use Rattle.lk_slot_link.proofs.Behind.{symbol_within}
 use Rattle.lk_slot_link.proofs.Fitting.{lists_fit}
 use Rattle.lk_workers.specs.Asked.{AreListsOf, AreMet, IsMet}
-use Rattle.lk_workers.specs.Items.{AreOwn, IsMeant, unit_of}
-use Rattle.lk_workers.specs.declared.work.WorkItem.{WorkItem}
+use Rattle.lk_workers.specs.Items.{IsMeant}
 use Rattle.lk_workers.specs.declared.work.WorkItem.TheVariants.{ExportDynamic, LoadGcUnit, LoadGlobalSymbol}
-
--- ---- items
-
--- the items of a group are units of the link
-pub own_units : (l : Lists) (link : LinkInput) (g : ℕ) (items : List WorkItem) → AreListsOf l link → AreOwn l g items
-    → All (λ item. IsUnit link.groups (unit_of item)) items
-own_units l link g items of own k d lt =
-    subst (λ (groups : List (List InputFile)). IsUnit groups (unit_of (get_or items k d))) (ap (λ (m : Lists). m.groups) of.lists) (own k d lt).meant.there
 
 -- ---- asks
 

@@ -1,6 +1,6 @@
 //! The state of a group, and the steps that it takes.
 
-ghost use Rattle.std.specs.Prelude.{◌≡◌, ◌++◌, ◌∷◌, ◌||◌, ℕ, [], All, false, true, IfNone, IfOk, IfSome, MatchBool, OnErr, OnOk, Some};
+ghost use Rattle.std.specs.Prelude.{◌≡◌, ◌++◌, ◌∷◌, ◌||◌, ℕ, [], false, true, IfNone, IfOk, IfSome, MatchBool, OnErr, OnOk, Some};
 ghost use Rattle.std.specs.Option.{is_some};
 ghost use Rattle.lk_reach.specs.declared.units.Ask.TheVariants as ask;
 ghost use Rattle.lk_link.specs.Marks.{is_marked};
@@ -8,7 +8,7 @@ ghost use Rattle.lk_reach.specs.Marks.{IsMarked, IsUnit, unit_at, unit_number};
 ghost use Rattle.lk_slot_link.specs.LinkGraphs.{group_roots, unit_group};
 ghost use Rattle.lk_workers.specs.Asked.{AreMet, AreReached, IsMet};
 ghost use Rattle.lk_slots.specs.Machine.{Parks, Swaps};
-ghost use Rattle.lk_workers.specs.Items.{IsMeant, IsOwn, machine_items, slot_of, unit_of};
+ghost use Rattle.lk_workers.specs.Items.{AreOwn, IsMeant, IsOwn, machine_items, slot_of};
 ghost use Rattle.lk_workers.specs.States.{DoesOne, activated, has_number, is_done, is_in, with_items};
 ghost use Rattle.lk_workers.specs.Steps.{DoesAsk, DoesAsks, DoesItem, DoesSome, DoesUnit, GivesItemUp, GivesUnitUp, IsGivenUp, IsStep, IsStepGivenUp, PassesOn, Refers, is_asked};
 
@@ -311,9 +311,8 @@ impl<J: Reach> GroupState<J> {
     }
 
     /// Activates the group, or takes an item of its own, and does all that it asks for; answers whether there was either. Without
-    /// memory the rest of those asks is given up, or the item, and nothing else. Its items are units of the link, as the laws on steps
-    /// ask (libwild: `GroupState::do_pending_work`).
-    #[tactic(auto, using(crate::proofs::Asked::own_units))]
+    /// memory the rest of those asks is given up, or the item, and nothing else. Its own items are units of
+    /// the group that are reached, as the laws on steps ask (libwild: `GroupState::do_pending_work`).
     pub fn step<R: Wait>(
         &mut self,
         traversal: &Traversal<'_, J>,
@@ -327,7 +326,7 @@ impl<J: Reach> GroupState<J> {
             (IsStep J.lists.groups traversal.now.link self.old self.new pass.old.sets pass.new.sets)
             ((self.old.active ≡ true) × (self.old.items ≡ []) × (self.new ≡ self.old) × (pass.new.sets ≡ pass.old.sets))) }
         ensures given_up { OnErr result (IsStepGivenUp J.lists.groups traversal.now.link self.old self.new pass.old.sets pass.new.sets) }
-        ensures units { All (λ item. IsUnit traversal.now.link.groups (unit_of item)) self.old.items }
+        ensures own { AreOwn J.lists self.old.group self.old.items }
         ensures group { self.new.group ≡ self.old.group }
     {
         if !self.active {
