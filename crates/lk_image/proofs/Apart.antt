@@ -8,6 +8,8 @@ use Rattle.lk_link.specs.Inputs.{Input, all_inputs, input_number}
 use Rattle.lk_link.specs.Parts.{part_at}
 use Rattle.lk_link.proofs.Elements.{append_at, flat_map_at, numbered_at}
 use Rattle.lk_merge.specs.Addresses.{image_start}
+use Rattle.lk_merge.specs.Hash.{fnv64}
+use Rattle.lk_merge.specs.Image.{all_pieces, image}
 use Rattle.lk_merge.specs.Pieces.{MergeInput}
 use Rattle.lk_sizes.specs.Owners.{Filling, ImageOwner, Owner, SectionOwner, owner_address, owner_bytes, size_of}
 use Rattle.lk_sizes.specs.PartOwners.{LiveSectionsAreOwners, owner_number, owners_of}
@@ -19,7 +21,7 @@ use Rattle.lk_layout.specs.Laws.{LaidOutLinksAreWellFormed}
 use Rattle.lk_layout.specs.Made.{Made, made_filling, made_of}
 use Rattle.lk_soundness.specs.Sound.{IsSound, part_record}
 use Rattle.lk_image.specs.Contents.{content}
-use Rattle.lk_image.specs.Image.{merged_bytes, merged_stretch, merged_stretches, section_stretch, section_stretches, stretches}
+use Rattle.lk_image.specs.Image.{merged_stretch, section_stretch, stretches}
 use Rattle.lk_image.specs.Laws.{ImagesAreMade}
 use Rattle.lk_image.specs.Places.{image_length, is_in_file, merged_file_part, merged_place, section_place}
 use Rattle.lk_image.specs.Ready.{AllHaveRoom, IsReady}
@@ -70,6 +72,13 @@ owned_by made layout p n offset address size o in_file backed owner at room begi
 
 -- ---- stretches of sections
 
+-- those of all, by file and index, and those of all that is merged
+abbrev section_stretches : Made → LayoutRecord → List Stretch
+section_stretches made layout = flat_map (section_stretch made.link layout) (enumerate_from 0 (all_inputs made.link.groups))
+
+abbrev merged_stretches : Made → LayoutRecord → List Stretch
+merged_stretches made layout = flat_map (merged_stretch made.link layout) (enumerate_from 0 layout.merged_strings)
+
 -- a stretch of an input section, with its number and its place among those of all, that has a byte
 record IsSectionAt (made : Made) (layout : LayoutRecord) (j offset : ℕ) : Type 0 where
   number : ℕ
@@ -84,7 +93,7 @@ single true one w (suc i) h = absurd (cc)
 single false one w i h = absurd (cc)
 
 section_at : LiveSectionsAreOwners → (made : Made) (layout : LayoutRecord) (j offset : ℕ) (w : Stretch) → IsSound made layout → IsSoundInFile made layout → IsReady made.link layout
-    → made.link.options.relax ≡ false → AllHaveRoom made.link layout → slice_get (section_stretches made.link layout) j ≡ Some w → IsInStretch offset w → IsSectionAt made layout j offset
+    → made.link.options.relax ≡ false → AllHaveRoom made.link layout → slice_get (section_stretches made layout) j ≡ Some w → IsInStretch offset w → IsSectionAt made layout j offset
 unfolding section_place
 section_at owners made layout j offset w sound in_file is_ready unrelaxed room at inside =
     let link : LinkInput = made.link in
@@ -127,7 +136,7 @@ single_for (Some p) f w zero h = (p, refl, refl, cc)
 single_for (Some p) f w (suc i) h = absurd (cc)
 
 merged_at : (made : Made) (layout : LayoutRecord) (j offset : ℕ) (w : Stretch) → IsSound made layout → IsSoundInFile made layout → IsReady made.link layout
-    → slice_get (merged_stretches made.link layout) j ≡ Some w → IsInStretch offset w → IsMergedAt made layout j offset
+    → slice_get (merged_stretches made layout) j ≡ Some w → IsInStretch offset w → IsMergedAt made layout j offset
 unfolding merged_place
 merged_at made layout j offset w sound in_file is_ready at inside =
     let link : LinkInput = made.link in
@@ -138,11 +147,11 @@ merged_at made layout j offset w sound in_file is_ready at inside =
     let inputs : List MergeInput = from.from.1 in
     let number : from.from.0 ≡ s = omega (arith, numbered.0) in
     let gives : slice_get (g (s, inputs)) from.inner ≡ Some w = ap (λ (n : ℕ). slice_get (g (n, inputs)) from.inner) (sym number) ∙ from.gives in
-    let made_one : ℕ → Stretch = λ p. record { at = merged_place layout s p; bytes = merged_bytes inputs } in
+    let made_one : ℕ → Stretch = λ p. record { at = merged_place layout s p; bytes = image fnv64 (all_pieces inputs) } in
     let alone = single_for (merged_file_part link.plan s) made_one w from.inner gives in
     let p : ℕ = alone.0 in
     let here : IsInStretch offset (made_one p) = subst (IsInStretch offset) (sym alone.3) inside in
-    let len : ℕ = length (merged_bytes inputs) in
+    let len : ℕ = length (image fnv64 (all_pieces inputs)) in
     let o = image_in_file made layout s p inputs is_ready.good sound numbered.1 (omega (arith, here.begins, here.ends)) alone.1 in
     record {
       number = s;
@@ -177,8 +186,8 @@ no_both made layout i j offset apart a b =
 all_apart : LiveSectionsAreOwners → (made : Made) (layout : LayoutRecord) → IsSound made layout → IsSoundInFile made layout → IsReady made.link layout → made.link.options.relax ≡ false
     → AllHaveRoom made.link layout → AreApart (stretches made.link layout)
 all_apart owners made layout sound in_file is_ready unrelaxed room i j offset a b at_i at_j in_a in_b =
-    let first : List Stretch = section_stretches made.link layout in
-    let second : List Stretch = merged_stretches made.link layout in
+    let first : List Stretch = section_stretches made layout in
+    let second : List Stretch = merged_stretches made layout in
     let section = section_at owners made layout in
     elim (append_at first second i a at_i) [
       | inl x ↦ elim (append_at first second j b at_j) [
@@ -207,7 +216,7 @@ owned_inside made layout offset o in_file a =
 all_within : LiveSectionsAreOwners → (made : Made) (layout : LayoutRecord) → IsSound made layout → IsSoundInFile made layout → IsReady made.link layout → made.link.options.relax ≡ false
     → AllHaveRoom made.link layout → EndWithin (image_length layout) (stretches made.link layout)
 all_within owners made layout sound in_file is_ready unrelaxed room k offset w at inside =
-    elim (append_at (section_stretches made.link layout) (merged_stretches made.link layout) k w at) [
+    elim (append_at (section_stretches made layout) (merged_stretches made layout) k w at) [
       | inl x ↦
           let a = section_at owners made layout k offset w sound in_file is_ready unrelaxed room x inside in
           owned_inside made layout offset (SectionOwner a.input (size_of (made_filling made) a.input)) in_file a.owned

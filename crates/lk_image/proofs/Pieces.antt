@@ -11,11 +11,10 @@ use Rattle.std.proofs.lemmas.Option.{get_or_from_slice_get, slice_get-get_or, sl
 use Rattle.lk_link.specs.declared.link.LinkInput.{LinkInput}
 use Rattle.lk_link.proofs.InputLemmas.{numbered_get}
 use Rattle.lk_merge.specs.Hash.{fnv64}
-use Rattle.lk_merge.specs.Image.{all_buckets, all_pieces, bucket_list, firsts_behind}
+use Rattle.lk_merge.specs.Image.{all_buckets, all_pieces, bucket_list, firsts_behind, image}
 use Rattle.lk_merge.specs.LinkInputs.{link_inputs, merge_inputs}
 use Rattle.lk_merge.specs.Merging.{kept_lists}
 use Rattle.lk_merge.specs.Pieces.{MergeInput, Piece}
-use Rattle.lk_image.specs.Image.{merged_bytes}
 
 -- the bytes of each, one behind the other
 pub joined : {X : Type 0} (f : X → List ℕ) (xs : List X) → flat_map f xs ≡ concat (map f xs)
@@ -30,12 +29,12 @@ all_joined : {X : Type 0} (g : X → List (List ℕ)) (xs : List X) → flat_map
 all_joined g [] = refl
 all_joined g (x ∷ xs) = ap (λ (zs : List ℕ). concat (g x) ++ zs) (all_joined g xs) ∙ sym (concat-append (g x) (flat_map g xs))
 
-kept_joined : (inputs : List MergeInput) → flat_map concat (kept_lists fnv64 inputs) ≡ merged_bytes inputs
+kept_joined : (inputs : List MergeInput) → flat_map concat (kept_lists fnv64 inputs) ≡ image fnv64 (all_pieces inputs)
 unfolding all_buckets firsts_behind
 kept_joined [] = refl
 kept_joined (x ∷ xs) = all_joined (bucket_list fnv64 (all_pieces (x ∷ xs))) all_buckets
 
-pub buckets_hold : {X : Type 0} (f : X → List Piece) (buckets : List X) (inputs : List MergeInput) → map f buckets ≡ kept_lists fnv64 inputs → flat_map (λ b. concat (f b)) buckets ≡ merged_bytes inputs
+pub buckets_hold : {X : Type 0} (f : X → List Piece) (buckets : List X) (inputs : List MergeInput) → map f buckets ≡ kept_lists fnv64 inputs → flat_map (λ b. concat (f b)) buckets ≡ image fnv64 (all_pieces inputs)
 buckets_hold f buckets inputs kept = each_joined f buckets ∙ ap (flat_map concat) kept ∙ kept_joined inputs
 
 -- an output section with a list of merged inputs is there

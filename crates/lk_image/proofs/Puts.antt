@@ -1,11 +1,11 @@
 -- What is put keeps the length, and so does what relocations put.
-use Rattle.std.proofs.Common.{◌≡◌, ℕ, suc, ◌+◌, ◌≤◌, Bool, true, false, List, [], ◌∷◌, ◌++◌, All, length, take, drop, if◌then◌else◌, refl, ap, ◌∙◌, arith, length-append}
+use Rattle.std.proofs.Common.{◌≡◌, ℕ, suc, ◌+◌, ◌≤◌, Bool, true, false, List, [], ◌∷◌, ◌++◌, All, length, take, drop, if◌then◌else◌, fold, refl, ap, ◌∙◌, arith, length-append}
 use Rattle.std.specs.Int.{to_le_bytes, w64}
 use Rattle.std.proofs.lemmas.List.{length-take-le, length-drop}
 use Rattle.lk_link.specs.declared.relocation.Relocation.{Relocation}
 use Rattle.lk_link.specs.declared.section.InputSection.{InputSection}
 use Rattle.lk_link.specs.InputSlots.{is_debug}
-use Rattle.lk_image.specs.Contents.{content, data_of, is_absolute, patch, patched}
+use Rattle.lk_image.specs.Contents.{content, data_of, is_absolute, patch}
 use Rattle.lk_image.specs.Ready.{HasRoom}
 use Rattle.lk_image.specs.Stretches.{put}
 
@@ -27,7 +27,7 @@ length_patch value bytes r true is room =
     ap (λ b. length (if b then put r.offset (to_le_bytes w64 (value r)) bytes else bytes)) is ∙ length-put r.offset (to_le_bytes w64 (value r)) bytes (omega (arith, word, room is))
 length_patch value bytes r false is room = ap (λ b. length (if b then put r.offset (to_le_bytes w64 (value r)) bytes else bytes)) is
 
-pub length_patched : (value : Relocation → ℕ) (bytes : List ℕ) (rs : List Relocation) (n : ℕ) → length bytes ≡ n → All (HasRoom n) rs → length (patched value bytes rs) ≡ n
+pub length_patched : (value : Relocation → ℕ) (bytes : List ℕ) (rs : List Relocation) (n : ℕ) → length bytes ≡ n → All (HasRoom n) rs → length (fold (patch value) bytes rs) ≡ n
 length_patched value bytes [] n long room = long
 length_patched value bytes (r ∷ rs) n long room =
     let first : HasRoom n r = room 0 r (omega arith) in
@@ -36,8 +36,8 @@ length_patched value bytes (r ∷ rs) n long room =
 
 length_by : (value : Relocation → ℕ) (s : InputSection) (debug : Bool) → is_debug s.slot ≡ debug → length (data_of s) ≡ s.size → (is_debug s.slot ≡ false → All (HasRoom s.size) s.relocs)
     → length (content value s) ≡ s.size
-length_by value s true is whole room = ap (λ b. length (if b then data_of s else patched value (data_of s) s.relocs)) is ∙ whole
-length_by value s false is whole room = ap (λ b. length (if b then data_of s else patched value (data_of s) s.relocs)) is ∙ length_patched value (data_of s) s.relocs s.size whole (room is)
+length_by value s true is whole room = ap (λ b. length (if b then data_of s else fold (patch value) (data_of s) s.relocs)) is ∙ whole
+length_by value s false is whole room = ap (λ b. length (if b then data_of s else fold (patch value) (data_of s) s.relocs)) is ∙ length_patched value (data_of s) s.relocs s.size whole (room is)
 
 -- what a section holds is as long as it says
 pub length-content : (value : Relocation → ℕ) (s : InputSection) → length (data_of s) ≡ s.size → (is_debug s.slot ≡ false → All (HasRoom s.size) s.relocs)

@@ -13,10 +13,15 @@ use Rattle.lk_layout.specs.LayoutRecord.{LayoutRecord}
 use Rattle.lk_image.specs.declared.error.ImageError.{ImageError}
 use Rattle.lk_image.specs.declared.error.ImageError.TheVariants.{NoRoom, Relaxed, TooLong}
 use Rattle.lk_image.specs.declared.error.TheConstants.{LONGEST_IMAGE}
+use Rattle.lk_image.specs.Contents.{is_absolute}
 use Rattle.lk_image.specs.Ready.{AllHaveRoom, HasRoom, HaveRoom}
 use Rattle.lk_image.specs.Places.{image_length}
-use Rattle.lk_image.specs.Refusals.{image_refusal, lacks_room, relocation_refusals, room_refusals, room_refusals_in}
+use Rattle.lk_image.specs.Refusals.{image_refusal, relocation_refusals, room_refusals_in}
 use Rattle.lk_image.proofs.Turns.{none_of}
+
+-- whether a relocation writes past the end of a section with so many bytes
+abbrev lacks_room : ℕ → Relocation → Bool
+lacks_room size r = is_absolute r.kind && nat_lt size (r.offset + 8)
 
 none_here : (x : Input) (k : ℕ) (r : Relocation) (lacks : Bool) → lacks_room x.section.size r ≡ lacks → relocation_refusals x (k, r) ≡ [] → lacks ≡ false
 none_here x k r true is none = absurd (cc (sym (ap (λ b. if b then NoRoom x.file x.index k ∷ [] else []) is) ∙ none))
@@ -38,7 +43,7 @@ have_room link layout k x none there plain =
     let here : relocation_refusals x (0 + i, r) ≡ [] = none_of (relocation_refusals x) (enumerate_from 0 x.section.relocs) i (0 + i, r) nothing at in
     has_room x.section.size r (none_here x (0 + i) r (lacks_room x.section.size r) refl here)
 
-pub all_have_room : (link : LinkInput) (layout : LayoutRecord) → room_refusals link layout ≡ [] → AllHaveRoom link layout
+pub all_have_room : (link : LinkInput) (layout : LayoutRecord) → flat_map (room_refusals_in link layout) (enumerate_from 0 (all_inputs link.groups)) ≡ [] → AllHaveRoom link layout
 all_have_room link layout none k x at =
     let number : k ≡ 0 + k = omega arith in
     let pair : ℕ → ℕ × Input = λ n. (n, x) in
@@ -60,7 +65,7 @@ pub unrefused_have_room : (link : LinkInput) (layout : LayoutRecord) → image_r
 unrefused_have_room link layout h =
     let long = let_through link.options.relax Relaxed _ h in
     let room = let_through (nat_lt LONGEST_IMAGE (image_length layout)) (TooLong (image_length layout)) _ long in
-    all_have_room link layout (no_first (room_refusals link layout) room)
+    all_have_room link layout (no_first (flat_map (room_refusals_in link layout) (enumerate_from 0 (all_inputs link.groups))) room)
 
 none_by : (b : Bool) (rest : Option ImageError) → (if b then Some Relaxed else rest) ≡ None → b ≡ false
 none_by true rest h = absurd (cc)

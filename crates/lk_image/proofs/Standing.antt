@@ -145,7 +145,7 @@ owner_in_file owners made layout k x sound unrelaxed there in_file =
       address = ap (λ (r : LayoutRecord). slice_index r.section_addresses k) sound.is ∙ address_told filling starts k x there mark
           ∙ ap (λ (n : ℕ). owner_address n (part_at made.link.plan.sections p) (owners_of filling p) (owner_number filling x)) start;
       size = size_stays filling layout.section_deletions k x there (ap (sizes_after made.link.groups) (sym deleted)) (λ some.
-          let told = (sound.shrunk k x there).shrinks some in
+          let told = sound.deletions.shrinks k x there some in
           let relaxed = (and_parts (has_position (is_marked layout.live_marks k) x.section && is_set EXEC x.section.attrs) made.link.options.relax told).1 in
           absurd (cc (sym relaxed ∙ unrelaxed)));
     }
@@ -193,7 +193,7 @@ pub image_in_file : (made : Made) (layout : LayoutRecord) (s p : ℕ) (inputs : 
     → slice_get layout.merged_strings s ≡ Some inputs → 0 < length (image fnv64 (all_pieces inputs)) → merged_file_part made.link.plan s ≡ Some p
     → IsImageInFile made layout s p inputs
 image_in_file made layout s p inputs good sound there some found =
-    let at = sound.images s inputs there (some_inputs inputs some) in
+    let at = sound.merged.images s inputs there (some_inputs inputs some) in
     let part = part_of_section made.link.plan.sections s at.part at.there at.belongs in
     let place = file_part_by made.link.plan s p (is_file_backed made.link.plan s) refl found in
     let same : at.part ≡ p = sym (merged_is made.link s at.part p good part at.alignment place.1) in
@@ -222,7 +222,7 @@ ready formed one owners link layout laid unrelaxed =
     record {
       good = good;
       outputs = ap (λ (r : LayoutRecord). r.merged_strings) sound.is;
-      starts = sound.starts;
+      starts = sound.merged.starts;
       sections = λ k x there. section_stands owners made layout k x good sound in_file unrelaxed there;
       merged = merged_stand made layout good sound in_file;
     }

@@ -17,14 +17,11 @@ is_absolute _ = false
 abbrev pub patch : (Relocation → ℕ) → List ℕ → Relocation → List ℕ
 patch value bytes r = if is_absolute r.kind then put r.offset (to_le_bytes w64 (value r)) bytes else bytes
 
--- the same, one after the other
-abbrev pub patched : (Relocation → ℕ) → List ℕ → List Relocation → List ℕ
-patched value bytes relocs = fold (patch value) bytes relocs
-
 -- the data of a section, zeros where none are given
 abbrev pub data_of : InputSection → List ℕ
 data_of s = if s.given then s.bytes else replicate s.size 0
 
--- what a section holds, by the values of its relocations: its data, with what those put there; of debug data they put nothing
+-- what a section holds, by the values of its relocations: its data, with what those put there, one after the other; of debug data they put
+-- nothing
 abbrev pub content : (Relocation → ℕ) → InputSection → List ℕ
-content value s = if is_debug s.slot then data_of s else patched value (data_of s) s.relocs
+content value s = if is_debug s.slot then data_of s else fold (patch value) (data_of s) s.relocs

@@ -19,26 +19,15 @@ section_stretch link layout q =
     if is_in_file link layout q
     then record { at = section_place link layout q; bytes = content (relocation_value link layout q.1.file) q.1.section } ∷ [] else []
 
--- those of all, by file and index
-abbrev pub section_stretches : LinkInput → LayoutRecord → List Stretch
-section_stretches link layout = flat_map (section_stretch link layout) (enumerate_from 0 (all_inputs link.groups))
-
--- what the output holds of merged inputs
-abbrev pub merged_bytes : List MergeInput → List ℕ
-merged_bytes inputs = image fnv64 (all_pieces inputs)
-
 -- what is merged in an output section, with its number, if that stands in the file
 abbrev pub merged_stretch : LinkInput → LayoutRecord → ℕ × List MergeInput → List Stretch
 merged_stretch link layout q =
-    option_map_or (λ p. record { at = merged_place layout q.0 p; bytes = merged_bytes q.1 } ∷ []) (merged_file_part link.plan q.0) []
+    option_map_or (λ p. record { at = merged_place layout q.0 p; bytes = image fnv64 (all_pieces q.1) } ∷ []) (merged_file_part link.plan q.0) []
 
--- that of all
-abbrev pub merged_stretches : LinkInput → LayoutRecord → List Stretch
-merged_stretches link layout = flat_map (merged_stretch link layout) (enumerate_from 0 layout.merged_strings)
-
--- all that stands in the file
+-- all that stands in the file: the input sections, by file and index, and what is merged in each output section
 abbrev pub stretches : LinkInput → LayoutRecord → List Stretch
-stretches link layout = section_stretches link layout ++ merged_stretches link layout
+stretches link layout =
+    flat_map (section_stretch link layout) (enumerate_from 0 (all_inputs link.groups)) ++ flat_map (merged_stretch link layout) (enumerate_from 0 layout.merged_strings)
 
 -- the image: it ends where the last output section does in the file, and all but these stretches is zero
 abbrev pub image_of : LinkInput → LayoutRecord → List ℕ

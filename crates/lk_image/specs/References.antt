@@ -1,7 +1,6 @@
 -- What references are worth.
 use Rattle.std.specs.Prelude.{ℕ, ℤ, List, [], None, Option, Some, Result, Ok, Err, false}
 use Rattle.std.specs.Option.{option_map_or}
-use Rattle.lk_link.specs.declared.file.InputFile.{InputFile}
 use Rattle.lk_link.specs.declared.ids.FileId.{FileId}
 use Rattle.lk_link.specs.declared.link.LinkInput.{LinkInput}
 use Rattle.lk_link.specs.declared.relocation.Relocation.{Relocation}
@@ -35,10 +34,6 @@ reference_value link layout s addend =
 abbrev pub value_in : LinkInput → LayoutRecord → ℕ → List InputSymbol → Relocation → ℕ
 value_in link layout first symbols r = reference_value link layout (local_definition first symbols r.symbol) r.addend
 
--- the symbols of the file with this number
-abbrev pub symbols_of : List (List InputFile) → FileId → List InputSymbol
-symbols_of groups id = option_map_or (λ f. f.symbols) (file_in groups id) []
-
 -- that of a relocation of the file with this number
 abbrev pub relocation_value : LinkInput → LayoutRecord → FileId → Relocation → ℕ
-relocation_value link layout id r = value_in link layout (first_symbol link.groups id) (symbols_of link.groups id) r
+relocation_value link layout id r = value_in link layout (first_symbol link.groups id) (option_map_or (λ f. f.symbols) (file_in link.groups id) []) r

@@ -1,16 +1,17 @@
 //! What a section holds: its data, and over them the values of its relocations.
 
-ghost use Rattle.std.specs.Prelude.{◌≡◌, ◌+◌, ◌^◌, ◌<◌, ◌≤◌, false, true, All, IsSome, MatchOption, Some, length, slice_get};
+ghost use Rattle.std.specs.Prelude.{◌≡◌, ◌+◌, ◌^◌, ◌<◌, ◌≤◌, false, true, All, IsSome, MatchOption, Some, [], fold, length, slice_get};
 ghost use Rattle.std.specs.Int.{to_le_bytes, w64};
+ghost use Rattle.std.specs.Option.{option_map_or};
 ghost use Rattle.lk_link.specs.Files.{file_in};
 ghost use Rattle.lk_link.specs.InputSlots.{can_be_kept, is_debug};
 ghost use Rattle.lk_link.specs.Inputs.{all_inputs};
 ghost use Rattle.lk_link.specs.Symbols.{first_symbol};
 ghost use Rattle.lk_link.specs.Walks.{input_of};
 ghost use Rattle.lk_link.specs.WellFormed.{IsWellFormed};
-ghost use Rattle.lk_image.specs.Contents.{content, data_of, is_absolute, patch, patched};
+ghost use Rattle.lk_image.specs.Contents.{content, data_of, is_absolute, patch};
 ghost use Rattle.lk_image.specs.Ready.{HasRoom, IsReady};
-ghost use Rattle.lk_image.specs.References.{relocation_value, symbols_of, value_in};
+ghost use Rattle.lk_image.specs.References.{relocation_value, value_in};
 ghost use Rattle.lk_image.specs.Stretches.{put};
 
 use crate::references::reference_value;
@@ -82,7 +83,7 @@ fn write_relocations(
     requires ready { IsReady link.now layout.now }
     requires room { All (HasRoom (length bytes.now)) relocs.now }
     requires numbers { All (λ (r : Relocation). symbols.first + r.symbol < 2 ^ 32) relocs.now }
-    ensures written { bytes.new ≡ patched (value_in link.now layout.now symbols.entry.first symbols.entry.symbols.now) bytes.old relocs.now }
+    ensures written { bytes.new ≡ fold (patch (value_in link.now layout.now symbols.entry.first symbols.entry.symbols.now)) bytes.old relocs.now }
     ensures long { length bytes.new ≡ length bytes.old }
 {
     for relocation in relocs {
@@ -131,7 +132,7 @@ fn write_word(bytes: &mut [u8], offset: usize, value: u64)
 fn symbols_in<'a>(link: &'a LinkInput, input: InputRef<'_>) -> Option<FileSymbols<'a>>
     requires good { IsWellFormed link.now }
     requires there { IsSome (file_in link.now.groups input.file) }
-    ensures { MatchOption result ⊥ (λ file. (file.first ≡ first_symbol link.now.groups input.entry.file) × (file.symbols.now ≡ symbols_of link.now.groups input.entry.file)) }
+    ensures { MatchOption result ⊥ (λ file. (file.first ≡ first_symbol link.now.groups input.entry.file) × (file.symbols.now ≡ option_map_or (λ f. f.symbols) (file_in link.now.groups input.entry.file) [])) }
 {
     let file = link.groups.file(input.file)?;
     let numbers = link.groups.symbol_id_range(input.file)?;

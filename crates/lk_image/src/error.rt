@@ -2,7 +2,8 @@
 
 ghost use Rattle.std.specs.Prelude.{Some};
 ghost use Rattle.std.specs.Fmt.{DisplaysOnOk};
-ghost use Rattle.lk_image.specs.Texts.{no_room_text, too_long_text};
+ghost use Rattle.lk_image.specs.declared.error.ImageError.TheVariants as image;
+ghost use Rattle.lk_image.specs.Texts.{error_text};
 
 use lk_link::ids::FileId;
 use std::alloc::{AllocError, AllocFailed};
@@ -36,6 +37,7 @@ impl fmt::Display for ImageError {
 
     ghost output = { λ error. Some (error_text error) };
 
+    #[tactic(auto, unfolding(crate::specs::Texts::error_text))]
     fn fmt<W: fmt::Write>(&self, f: &mut fmt::Formatter<W>) -> fmt::Result {
         match *self {
             ImageError::Relaxed => write!(f, "no image: relax"),
@@ -51,22 +53,22 @@ impl fmt::Display for ImageError {
 }
 
 /// Writes that an image would be too long.
-#[tactic(auto, unfolding(crate::specs::Texts::too_long_text))]
+#[tactic(auto, unfolding(crate::specs::Texts::error_text))]
 fn write_too_long<W: fmt::Write>(f: &mut fmt::Formatter<W>, len: u64) -> fmt::Result
-    ensures { DisplaysOnOk W.write_str_gives f.old result (Some (too_long_text len)) f.new }
+    ensures { DisplaysOnOk W.write_str_gives f.old result (Some (error_text (image.TooLong len))) f.new }
 {
     write!(f, "no image: {len} bytes, limit {LONGEST_IMAGE}")
 }
 
 /// Writes that a relocation has no room.
-#[tactic(auto, unfolding(crate::specs::Texts::no_room_text))]
+#[tactic(auto, unfolding(crate::specs::Texts::error_text))]
 fn write_no_room<W: fmt::Write>(
     f: &mut fmt::Formatter<W>,
     file: FileId,
     section: usize,
     index: usize,
 ) -> fmt::Result
-    ensures { DisplaysOnOk W.write_str_gives f.old result (Some (no_room_text file section index)) f.new }
+    ensures { DisplaysOnOk W.write_str_gives f.old result (Some (error_text (image.NoRoom file section index))) f.new }
 {
     let FileId { group, file } = file;
     write!(

@@ -1,9 +1,11 @@
 //! The bytes of merged data in the file.
 
 ghost use Rattle.std.specs.Prelude.{◌≡◌, ◌+◌, ◌<◌, ◌≤◌, Some, fold, length, map, slice_get};
-ghost use Rattle.std.specs.List.{concat, flat_map};
+ghost use Rattle.std.specs.List.{concat, enumerate_from, flat_map};
 ghost use Rattle.lk_merge.specs.Buckets.{piece_of};
-ghost use Rattle.lk_image.specs.Image.{merged_bytes, merged_stretch, merged_stretches};
+ghost use Rattle.lk_merge.specs.Hash.{fnv64};
+ghost use Rattle.lk_merge.specs.Image.{all_pieces, image as merged_image};
+ghost use Rattle.lk_image.specs.Image.{merged_stretch};
 ghost use Rattle.lk_image.specs.Places.{image_length};
 ghost use Rattle.lk_image.specs.Ready.{IsReady};
 ghost use Rattle.lk_image.specs.Stretches.{put, with_stretch};
@@ -17,7 +19,7 @@ use lk_merge::{MergeString, MergeStringsSectionBucket};
 pub(crate) fn write_merged(image: &mut [u8], link: &LinkInput, layout: &Layout<'_>)
     requires ready { IsReady link.now layout.now }
     requires long { length image.now ≡ image_length layout.now }
-    ensures written { image.new ≡ fold with_stretch image.old (merged_stretches link.now layout.now) }
+    ensures written { image.new ≡ fold with_stretch image.old (flat_map (merged_stretch link.now layout.now) (enumerate_from 0 layout.now.merged_strings)) }
     ensures long { length image.new ≡ length image.old }
 {
     for (section, merged) in layout.merged_strings().iter().enumerate() {
@@ -50,8 +52,8 @@ fn write_section(
 
 /// Writes what is merged in an output section, from an offset on.
 fn write_image_of(image: &mut [u8], at: usize, merged: &MergedStringsSection<'_>)
-    requires { at + length (merged_bytes merged.now) ≤ length image.now }
-    ensures written { image.new ≡ put at (merged_bytes merged.now) image.old }
+    requires { at + length (merged_image fnv64 (all_pieces merged.now)) ≤ length image.now }
+    ensures written { image.new ≡ put at (merged_image fnv64 (all_pieces merged.now)) image.old }
     ensures long { length image.new ≡ length image.old }
 {
     write_buckets(image, at, merged.buckets());

@@ -1,10 +1,12 @@
 //! Relocations that have no room.
 
 ghost use Rattle.std.specs.Prelude.{◌≡◌, ◌+◌, nat_lt};
+ghost use Rattle.std.specs.List.{enumerate_from, flat_map};
+ghost use Rattle.lk_link.specs.Inputs.{all_inputs};
 ghost use Rattle.lk_link.specs.Walks.{input_of};
 ghost use Rattle.lk_link.specs.WellFormed.{IsWellFormed};
 ghost use Rattle.lk_stops.specs.Stops.{StopsAtFirst};
-ghost use Rattle.lk_image.specs.Refusals.{relocation_refusals, room_refusals, room_refusals_in};
+ghost use Rattle.lk_image.specs.Refusals.{relocation_refusals, room_refusals_in};
 
 use crate::contents::is_absolute;
 use crate::error::ImageError;
@@ -18,7 +20,7 @@ use lk_link::relocation::Relocation;
 /// stand in the file.
 pub(crate) fn check_room(link: &LinkInput, layout: &Layout<'_>) -> Result<(), ImageError>
     requires good { IsWellFormed link.now }
-    ensures { StopsAtFirst (room_refusals link.now layout.now) result }
+    ensures { StopsAtFirst (flat_map (room_refusals_in link.now layout.now) (enumerate_from 0 (all_inputs link.now.groups))) result }
 {
     let mut number = 0usize;
     for input in link.groups.inputs() {

@@ -1,9 +1,10 @@
 //! The bytes of live sections in the file.
 
 ghost use Rattle.std.specs.Prelude.{◌≡◌, Some, fold, length, slice_get};
+ghost use Rattle.std.specs.List.{enumerate_from, flat_map};
 ghost use Rattle.lk_link.specs.Inputs.{all_inputs};
 ghost use Rattle.lk_link.specs.Walks.{input_of};
-ghost use Rattle.lk_image.specs.Image.{section_stretch, section_stretches};
+ghost use Rattle.lk_image.specs.Image.{section_stretch};
 ghost use Rattle.lk_image.specs.Ready.{AllHaveRoom, HaveRoom, IsReady};
 ghost use Rattle.lk_image.specs.Places.{image_length};
 ghost use Rattle.lk_image.specs.Stretches.{with_stretch};
@@ -19,7 +20,7 @@ pub(crate) fn write_sections(image: &mut [u8], link: &LinkInput, layout: &Layout
     requires ready { IsReady link.now layout.now }
     requires room { AllHaveRoom link.now layout.now }
     requires long { length image.now ≡ image_length layout.now }
-    ensures written { image.new ≡ fold with_stretch image.old (section_stretches link.now layout.now) }
+    ensures written { image.new ≡ fold with_stretch image.old (flat_map (section_stretch link.now layout.now) (enumerate_from 0 (all_inputs link.now.groups))) }
     ensures long { length image.new ≡ length image.old }
 {
     let mut number = 0usize;

@@ -1,5 +1,5 @@
 -- The reports of plain layouts are good maps.
-use Rattle.std.proofs.Common.{◌≡◌, ℕ, ◌+◌, ◌<◌, ◌^◌, List, length, sym, ap, subst, ◌∙◌, arith, zero-add}
+use Rattle.std.proofs.Common.{◌≡◌, ℕ, ◌+◌, ◌<◌, ◌^◌, List, length, None, sym, ap, subst, ◌∙◌, arith, zero-add}
 use Rattle.std.specs.Prelude.{slice_index}
 use Rattle.std.specs.List.{enumerate_from}
 use Rattle.std.proofs.lemmas.List.{get_or-map}
@@ -19,7 +19,7 @@ use Rattle.lk_sizes.specs.Attributes.{all_section_attributes, section_attributes
 use Rattle.lk_sizes.specs.Emitted.{active_segments, is_emitted}
 use Rattle.lk_sizes.specs.PartOwners.{part_size}
 use Rattle.lk_relax.specs.RelaxedLaws.{RelaxedStands, StandsFor}
-use Rattle.lk_relax.specs.Stages.{Stage, filling_after, setting_after}
+use Rattle.lk_relax.specs.Stages.{IsRelaxed, Stage, filling_after, refusal_of, setting_after}
 use Rattle.lk_resolutions.proofs.PartCounts.{length-by_part}
 use Rattle.lk_layout.specs.Defined.{layout_of}
 use Rattle.lk_layout.specs.LayoutRecord.{LayoutRecord}
@@ -27,7 +27,6 @@ use Rattle.lk_layout.specs.Laws.{LaidOutLinksAreWellFormed}
 use Rattle.lk_soundness.specs.Laws.{DefinedLayoutsAreSound}
 use Rattle.lk_layout.specs.Machines.{IsLawfulMachine, Machine}
 use Rattle.lk_layout.specs.Made.{Made, made_content, made_of, relaxing_for}
-use Rattle.lk_soundness.specs.Sound.{PlacementStands}
 use Rattle.lk_map.specs.Good.{IsGood}
 use Rattle.lk_report_maps.specs.GoodReports.{IsCovered, PlainReportsAreGood}
 use Rattle.lk_report_maps.specs.Laws.{first_segment_line, map_sections, map_segments}
@@ -44,7 +43,7 @@ attributes_at link live s below =
 
 module _ (stands : RelaxedStands) (file_apart : FileSectionsAreApart) (memory_apart : PlainMemorySectionsAreApart) (sections_fit : SectionsFit) (segments_fit : SegmentsFit) (hold : PlainSegmentsHoldSections)
     (machine : Machine) (link : LinkInput) (live : Live) (stage : Stage) (lawful : IsLawfulMachine machine) (good : IsWellFormed link) (reached : AreLive link live)
-    (placement : PlacementStands (made_of machine link live stage)) (plain : IsPlain link.plan link.options.output) where
+    (relaxed : IsRelaxed (relaxing_for machine link live) stage) (unrefused : refusal_of (relaxing_for machine link live) stage ≡ None) (plain : IsPlain link.plan link.options.output) where
   -- what is made
   abbrev made : Made
   made = made_of machine link live stage
@@ -54,7 +53,7 @@ module _ (stands : RelaxedStands) (file_apart : FileSectionsAreApart) (memory_ap
   setting = setting_after (relaxing_for machine link live) stage.walked
 
   standing : StandsFor (relaxing_for machine link live) stage
-  standing = stands (relaxing_for machine link live) stage good placement.relaxed
+  standing = stands (relaxing_for machine link live) stage good relaxed
 
   soundly_set : IsSoundlySet setting stage.states stage.records
   soundly_set = record {
@@ -65,7 +64,7 @@ module _ (stands : RelaxedStands) (file_apart : FileSectionsAreApart) (memory_ap
   }
 
   whole : length stage.states ≡ length link.plan.events + 1
-  whole = standing.placed.ends placement.unrefused
+  whole = standing.placed.ends unrefused
 
   -- a flag is told as the plan has it
   told_flag : (flag s : ℕ) → is_set flag (section_attributes link live s) ≡ is_set flag (own_attributes link.plan s) → s < length link.plan.sections
@@ -93,5 +92,5 @@ plain_reports_are_good sound well stands file_apart memory_apart sections_fit se
     let (live, stage, is) = sound machine link layout lawful defined in
     let made : Made = made_of machine link live stage in
     subst (λ (l : LayoutRecord). IsGood (map_sections link l) (map_segments link l)) (sym is.is)
-    (of_made stands file_apart memory_apart sections_fit segments_fit hold machine link live stage lawful (well machine link layout defined) is.reached is.stands plain
+    (of_made stands file_apart memory_apart sections_fit segments_fit hold machine link live stage lawful (well machine link layout defined) is.reached is.relaxed is.unrefused plain
     (subst (λ (l : LayoutRecord). IsCovered link l) is.is covered) stack)

@@ -223,6 +223,26 @@ command_is_read (verb ∷ group ∷ file ∷ index ∷ []) command read =
     )
 command_is_read (verb ∷ group ∷ file ∷ index ∷ more ∷ others) command read = absurd (cc)
 
+-- words are those of one command at most
+pub one_command : (words : List (List ℕ)) (c d : Command) → IsCommand words c → IsCommand words d → c ≡ d
+one_command words c d first second =
+    let same : Some c ≡ Some d = sym (reads_command words c first) ∙ reads_command words d second in
+    cc
+
+-- what is read as no command isn't the words of any
+pub no_command : (words : List (List ℕ)) (command : Command) → command_of words ≡ None → IsCommand words command → ⊥
+no_command words command none asked =
+    let read : None ≡ Some command = sym none ∙ reads_command words command asked in
+    absurd (cc)
+
+-- the words of no command are read as none
+pub reads_none : (words : List (List ℕ)) → ((command : Command) → IsCommand words command → ⊥) → command_of words ≡ None
+reads_none words never = none_unless (command_of words) (λ command read. never command (command_is_read words command read))
+  where
+    none_unless : (o : Option Command) → ((command : Command) → o ≡ Some command → ⊥) → o ≡ None
+    none_unless None never = refl
+    none_unless (Some command) never = absurd (never command refl)
+
 -- a command that asks for several workers
 pub asks : (words : List (List ℕ)) (command : Command) → command_of words ≡ Some command → 2 ≤ workers_for command → AsksForWorkers words
 asks words command read several = record { command = command; asked = command_is_read words command read; several = several }
@@ -236,8 +256,7 @@ pub asks_as_told : (words : List (List ℕ)) (command : Command) (n : ℕ) → c
 asks_as_told words command n read same = (
   λ several. asks words command read (subst (λ k. 2 ≤ k) same (leb-true 2 n several)),
   λ asked.
-      let told : Some command ≡ Some asked.command = sym read ∙ reads_command words asked.command asked.asked in
-      let is : command ≡ asked.command = cc in
+      let is : command ≡ asked.command = one_command words command asked.command (command_is_read words command read) asked.asked in
       le-leb 2 n (omega (arith, same, ap workers_for is, asked.several)),
 )
 
@@ -245,9 +264,7 @@ asks_as_told words command n read same = (
 pub asks_for_none : (words : List (List ℕ)) → command_of words ≡ None → IsTrue false ↔ AsksForWorkers words
 asks_for_none words none = (
   λ never. absurd (true≢false (sym never)),
-  λ asked.
-      let read : None ≡ Some asked.command = sym none ∙ reads_command words asked.command asked.asked in
-      absurd (cc),
+  λ asked. absurd (no_command words asked.command none asked.asked),
 )
 
 -- the numbers of `gen` are in range

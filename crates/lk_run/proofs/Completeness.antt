@@ -1,7 +1,7 @@
 -- What the words and the input define is what a run tells.
-use Rattle.std.proofs.Common.{◌≡◌, ◌⊎◌, inl, inr, Bool, true, false, true≢false, ℕ, List, [], length, Option, Some, None, Result, Ok, Err, sym, subst, ap, ◌∙◌, refl, arith}
+use Rattle.std.proofs.Common.{◌≡◌, ◌⊎◌, inl, inr, Bool, true, false, true≢false, ℕ, List, [], ◌++◌, length, Option, Some, None, Result, Ok, Err, sym, subst, ap, ◌∙◌, refl, arith}
 use Rattle.std.proofs.lemmas.Bool.{cases_lt}
-use Rattle.std.specs.Prelude.{MatchBool, MatchOption, slice_index_or}
+use Rattle.std.specs.Prelude.{MatchBool, MatchOption, codes, slice_index_or}
 use Rattle.lk_input.specs.declared.read.error.InputError.{InputError}
 use Rattle.lk_input.specs.Reading.{reading_of}
 use Rattle.lk_generator.specs.Generated.{generated_link}
@@ -10,10 +10,12 @@ use Rattle.lk_explain.specs.Faults.{has_unit}
 use Rattle.lk_explain.specs.Laws.{ReachedIsShown, ShownIsOne}
 use Rattle.lk_explain.proofs.NumberLemmas.{reached_by}
 use Rattle.lk_explain.proofs.PathLemmas.{has_is_unit}
+use Rattle.lk_image.specs.declared.error.ImageError.{ImageError}
 use Rattle.lk_image.specs.Refusals.{image_refusal}
 use Rattle.lk_link.specs.declared.fault.LinkFault.{LinkFault}
 use Rattle.lk_link.specs.declared.ids.FileId.{FileId}
 use Rattle.lk_link.specs.declared.link.LinkInput.{LinkInput}
+use Rattle.lk_link.specs.Texts.{link_fault_text}
 use Rattle.lk_link.specs.WellFormed.{IsWellFormed}
 use Rattle.lk_map.specs.declared.check.MapFault.{MapFault}
 use Rattle.lk_map.specs.declared.map_text.SectionLine.{SectionLine}
@@ -30,21 +32,23 @@ use Rattle.lk_layout.specs.declared.error.LayoutError.{LayoutError}
 use Rattle.lk_layout.specs.LayoutRecord.{LayoutRecord}
 use Rattle.lk_layout.specs.Defined.{IsDefined}
 use Rattle.lk_layout.specs.Laws.{DefinedAnswerExists, DefinedAnswerIsOne}
+use Rattle.lk_report.specs.Report.{report}
+use Rattle.lk_report.specs.Summary.{summary}
 use Rattle.lk_run.specs.declared.answer.Answer.{Answer}
 use Rattle.lk_devices.specs.declared.limit.TheConstants.{LONGEST_INPUT}
 use Rattle.lk_run.specs.declared.status.Status.{Status}
 use Rattle.lk_run.specs.declared.status.Status.TheVariants.{Done, Refused, Usage, Unreadable, ReadFault, WriteFault, NoMemory}
 use Rattle.lk_run.specs.declared.words.Command.{Command}
 use Rattle.lk_run.specs.declared.words.Command.TheVariants as commands
-use Rattle.lk_run.specs.Complete.{AreGoodMap, CheckRunsAreComplete, DescribesLayout, DescribesSection, IsAnswerOver, IsFaultless, RunsTellOneAnswer, RunsTellTheAnswer, Tells, WhyRunsAreComplete}
+use Rattle.lk_run.specs.Complete.{AreGoodMap, CheckRunsAreComplete, DescribesLayout, DescribesSection, IsAnswerFor, IsAnswerOver, IsFaultless, RunsTellOneAnswer, RunsTellTheAnswer, Tells, WhyRunsAreComplete}
 use Rattle.lk_devices.specs.Device.{SourceState, SinkState}
 use Rattle.lk_run.specs.FaultText.{input_fault_text_of}
-use Rattle.lk_run.specs.Run.{Held, Whole, Longer, Holds, Takes, IsAnswerOf, IsAnswerTo, IsAnswerToReading, IsAnswered, IsGeneratedAnswer, IsImageAnswer, IsLayoutAnswer, IsMapAnswer, IsSectionAnswer, IsWayAnswer, IsWhyAnswer, done, judged, refused, unreadable, Commanded, Uncommanded, Unmoved, IsDefinedFor, Finished, IsRun, TellsDefined, Unread, image_told, imaged, summed_up, told_of}
+use Rattle.lk_run.specs.Run.{Held, Whole, Longer, Holds, Takes, IsAnswerOf, IsAnswerTo, IsAnswerToReading, IsMapAnswer, IsSectionAnswer, IsWayAnswer, IsWhyAnswer, done, judged, refused, unreadable, Commanded, Unmoved, IsDefinedFor, Finished, IsRun, TellsDefined, Unread, image_told, imaged, told_of}
 use Rattle.lk_run.specs.TooLong.{too_long_text}
 use Rattle.lk_run.specs.MapTexts.{no_map_text}
-use Rattle.lk_run.specs.WhyTexts.{IsWay, link_fault_line, no_section_text, why_text}
+use Rattle.lk_run.specs.WhyTexts.{IsWay, no_section_text, why_text}
 use Rattle.lk_run.specs.Words.{IsCommand, command_of, reads, usage}
-use Rattle.lk_run.proofs.Commands.{reads_command}
+use Rattle.lk_run.proofs.Commands.{one_command, reads_command, reads_none}
 use Rattle.lk_run.proofs.RunLaws.{answered}
 
 -- ---- the laws that it stands on
@@ -72,11 +76,8 @@ reading_answer : (to_link : LinkInput → Answer → Type 0) → ((link : LinkIn
 reading_answer to_link every (Ok link) = every link
 reading_answer to_link every (Err e) = (unreadable (input_fault_text_of e), refl)
 
-defined_answer : AnswersExist → (told : LinkInput → Result LayoutRecord LayoutError → Answer) (link : LinkInput) → (answer : Answer) × TellsDefined told link answer
-defined_answer law told link = let found = law.layouts small64_machine link in (told link found.0, (found.0, found.1, refl))
-
-generated_answer : AnswersExist → (seed size : ℕ) → (answer : Answer) × IsGeneratedAnswer seed size answer
-generated_answer law seed size = let found = law.layouts small64_machine (generated_link seed size) in (summed_up seed size found.0, (found.0, found.1, refl))
+defined_answer : AnswersExist → (told : LinkInput → LayoutRecord → Answer) (link : LinkInput) → (answer : Answer) × TellsDefined told link answer
+defined_answer law told link = let found = law.layouts small64_machine link in (told_of (told link) found.0, (found.0, found.1, refl))
 
 -- a unit is reached or not, as its mark says
 way_by_mark : AnswersExist → (link : LinkInput) (unit : LinkUnit) → IsWellFormed link → has_unit link unit ≡ true → (mark : Bool)
@@ -95,9 +96,9 @@ section_answer law link file index wf true there =
 section_answer law link file index wf false there = (refused (no_section_text file index), refl)
 
 why_answer : AnswersExist → (file : FileId) (index : ℕ) (link : LinkInput) (found : Option LinkFault) → first_fault link ≡ found
-    → (answer : Answer) × MatchOption found (IsSectionAnswer link file index answer) (λ fault. answer ≡ refused (link_fault_line fault))
+    → (answer : Answer) × MatchOption found (IsSectionAnswer link file index answer) (λ fault. answer ≡ refused (link_fault_text fault ++ codes "\n"))
 why_answer law file index link None is = section_answer law link file index ((law.unfaulted link).1 is) (has_unit link (Sec file index)) refl
-why_answer law file index link (Some fault) is = (refused (link_fault_line fault), refl)
+why_answer law file index link (Some fault) is = (refused (link_fault_text fault ++ codes "\n"), refl)
 
 map_answer : AnswersExist → (text : List ℕ) (said : Result (List SectionLine × List SegmentLine) ℕ) → map_of text ≡ said → (answer : Answer) × IsMapAnswer said answer
 map_answer law text (Ok map) is =
@@ -107,12 +108,14 @@ map_answer law text (Err line) is = (unreadable (no_map_text line), refl)
 
 -- a case for each command
 command_answer : AnswersExist → (command : Command) (bytes : List ℕ) → (answer : Answer) × IsAnswerOf command bytes answer
-command_answer law (commands.Layout workers) bytes = reading_answer IsLayoutAnswer (defined_answer law told_of) (reading_of bytes)
-command_answer law (commands.Gen seed size) bytes = generated_answer law seed size
+command_answer law (commands.Layout workers) bytes =
+    let told : LinkInput → LayoutRecord → Answer = λ link layout. done (report link layout) in
+    reading_answer (TellsDefined told) (defined_answer law told) (reading_of bytes)
+command_answer law (commands.Gen seed size) bytes = defined_answer law (λ link layout. done (summary seed size layout)) (generated_link seed size)
 command_answer law (commands.Why file index) bytes =
     reading_answer (IsWhyAnswer file index) (λ link. why_answer law file index link (first_fault link) refl) (reading_of bytes)
 command_answer law commands.Check bytes = map_answer law bytes (map_of bytes) refl
-command_answer law (commands.Image workers) bytes = reading_answer IsImageAnswer (defined_answer law image_told) (reading_of bytes)
+command_answer law (commands.Image workers) bytes = reading_answer (TellsDefined image_told) (defined_answer law image_told) (reading_of bytes)
 
 held_answer : AnswersExist → (command : Command) (held : Held) → (answer : Answer) × IsAnswerTo command held answer
 held_answer law command (Whole bytes) = command_answer law command bytes
@@ -132,11 +135,8 @@ one_of_reading : (to_link : LinkInput → Answer → Type 0) → ((link : LinkIn
 one_of_reading to_link one (Ok link) a b p q = one link a b p q
 one_of_reading to_link one (Err e) a b p q = p ∙ sym q
 
-one_defined : AnswersAreOne → (told : LinkInput → Result LayoutRecord LayoutError → Answer) (link : LinkInput) (a b : Answer) → TellsDefined told link a → TellsDefined told link b → a ≡ b
-one_defined law told link a b p q = p.2 ∙ ap (told link) (law.layouts small64_machine link p.0 q.0 p.1 q.1) ∙ sym q.2
-
-one_generated : AnswersAreOne → (seed size : ℕ) (a b : Answer) → IsGeneratedAnswer seed size a → IsGeneratedAnswer seed size b → a ≡ b
-one_generated law seed size a b p q = p.2 ∙ ap (summed_up seed size) (law.layouts small64_machine (generated_link seed size) p.0 q.0 p.1 q.1) ∙ sym q.2
+one_defined : AnswersAreOne → (told : LinkInput → LayoutRecord → Answer) (link : LinkInput) (a b : Answer) → TellsDefined told link a → TellsDefined told link b → a ≡ b
+one_defined law told link a b p q = p.2 ∙ ap (told_of (told link)) (law.layouts small64_machine link p.0 q.0 p.1 q.1) ∙ sym q.2
 
 one_way : AnswersAreOne → (link : LinkInput) (unit : LinkUnit) → IsWellFormed link → (a b : Option (List LinkUnit)) → IsWay link unit a → IsWay link unit b → a ≡ b
 one_way law link unit wf (Some path) (Some other) p q = ap Some (law.shown link path other unit wf p q)
@@ -152,8 +152,8 @@ one_section law link file index wf true a b p q =
 one_section law link file index wf false a b p q = p ∙ sym q
 
 one_why : AnswersAreOne → (file : FileId) (index : ℕ) (link : LinkInput) (found : Option LinkFault) (a b : Answer) → first_fault link ≡ found
-    → MatchOption found (IsSectionAnswer link file index a) (λ fault. a ≡ refused (link_fault_line fault))
-    → MatchOption found (IsSectionAnswer link file index b) (λ fault. b ≡ refused (link_fault_line fault)) → a ≡ b
+    → MatchOption found (IsSectionAnswer link file index a) (λ fault. a ≡ refused (link_fault_text fault ++ codes "\n"))
+    → MatchOption found (IsSectionAnswer link file index b) (λ fault. b ≡ refused (link_fault_text fault ++ codes "\n")) → a ≡ b
 one_why law file index link None a b is p q = one_section law link file index ((law.unfaulted link).1 is) (has_unit link (Sec file index)) a b p q
 one_why law file index link (Some fault) a b is p q = p ∙ sym q
 
@@ -163,12 +163,14 @@ one_of_map law (Err line) a b p q = p ∙ sym q
 
 -- a case for each command
 one_of_command : AnswersAreOne → (command : Command) (bytes : List ℕ) (a b : Answer) → IsAnswerOf command bytes a → IsAnswerOf command bytes b → a ≡ b
-one_of_command law (commands.Layout workers) bytes a b p q = one_of_reading IsLayoutAnswer (one_defined law told_of) (reading_of bytes) a b p q
-one_of_command law (commands.Gen seed size) bytes a b p q = one_generated law seed size a b p q
+one_of_command law (commands.Layout workers) bytes a b p q =
+    let told : LinkInput → LayoutRecord → Answer = λ link layout. done (report link layout) in
+    one_of_reading (TellsDefined told) (one_defined law told) (reading_of bytes) a b p q
+one_of_command law (commands.Gen seed size) bytes a b p q = one_defined law (λ link layout. done (summary seed size layout)) (generated_link seed size) a b p q
 one_of_command law (commands.Why file index) bytes a b p q =
     one_of_reading (IsWhyAnswer file index) (λ link c d. one_why law file index link (first_fault link) c d refl) (reading_of bytes) a b p q
 one_of_command law commands.Check bytes a b p q = one_of_map law (map_of bytes) a b p q
-one_of_command law (commands.Image workers) bytes a b p q = one_of_reading IsImageAnswer (one_defined law image_told) (reading_of bytes) a b p q
+one_of_command law (commands.Image workers) bytes a b p q = one_of_reading (TellsDefined image_told) (one_defined law image_told) (reading_of bytes) a b p q
 
 one_of_held : AnswersAreOne → (command : Command) (held : Held) (a b : Answer) → IsAnswerTo command held a → IsAnswerTo command held b → a ≡ b
 one_of_held law command (Whole bytes) a b p q = one_of_command law command bytes a b p q
@@ -181,8 +183,8 @@ one_held bytes Longer (Whole c) p q = let same : length bytes ≡ length c = ap 
 one_held bytes Longer Longer p q = refl
 
 -- the answer that each run of these words over these bytes tells
-abbrev IsTheAnswer : SourceState → Option Command → Answer → Type 0
-IsTheAnswer from command answer = (to : SourceState) (told : Answer) → MatchOption command (Uncommanded from to told) (λ c. IsAnswered c from to told) → told ≡ answer
+abbrev IsTheAnswer : SourceState → List (List ℕ) → Answer → Type 0
+IsTheAnswer from words answer = (to : SourceState) (told : Answer) → IsDefinedFor words from to told → told ≡ answer
 
 -- that of a command which reads, and of one which doesn't
 over_answer : AnswersExist → (bytes : List ℕ) (does_read : Bool) (command : Command)
@@ -207,13 +209,17 @@ its_answer one from bytes left true command answer given to told is =
     one_of_held one command given.0 told answer (subst (λ h. IsAnswerTo command h told) same is.answers) given.2
 its_answer one from bytes left false command answer given to told is = one_of_command one command [] told answer is.answers given
 
-the_answer : AnswersAreOne → (from : SourceState) (bytes : List ℕ) → from.left ≡ Some bytes → (command : Option Command) (answer : Answer)
-    → IsAnswerOver bytes command answer → IsTheAnswer from command answer
-the_answer one from bytes left None answer given to told is = is.answers ∙ sym given
-the_answer one from bytes left (Some command) answer given to told is = its_answer one from bytes left (reads command) command answer given to told is
+the_answer : AnswersAreOne → (from : SourceState) (bytes : List ℕ) → from.left ≡ Some bytes → (words : List (List ℕ)) (answer : Answer)
+    → IsAnswerFor words bytes answer → IsTheAnswer from words answer
+the_answer one from bytes left words answer given to told (inl asked) =
+    let over : IsAnswerOver bytes (Some asked.0) answer = subst (λ c. IsAnswerOver bytes c answer) (reads_command words asked.0 asked.1) given in
+    its_answer one from bytes left (reads asked.0) asked.0 answer over to told asked.2
+the_answer one from bytes left words answer given to told (inr unasked) =
+    let over : IsAnswerOver bytes None answer = subst (λ c. IsAnswerOver bytes c answer) (reads_none words unasked.none) given in
+    unasked.answers ∙ sym over
 
 -- a run whose devices didn't fail told it
-finished_tells : (words : List (List ℕ)) (from to : SourceState) (before after : SinkState) (status : Status) (answer : Answer) → IsTheAnswer from (command_of words) answer
+finished_tells : (words : List (List ℕ)) (from to : SourceState) (before after : SinkState) (status : Status) (answer : Answer) → IsTheAnswer from words answer
     → Finished words from to before after status → Tells before after status answer
 finished_tells words from to before after status answer is run =
     let same : run.answer ≡ answer = is to run.answer run.defined in
@@ -222,7 +228,7 @@ finished_tells words from to before after status answer is run =
       written = subst (λ (a : Answer). Takes before after a.bytes) same run.written;
     }
 
-tells : (words : List (List ℕ)) (from to : SourceState) (before after : SinkState) (status : Status) (answer : Answer) → IsTheAnswer from (command_of words) answer
+tells : (words : List (List ℕ)) (from to : SourceState) (before after : SinkState) (status : Status) (answer : Answer) → IsTheAnswer from words answer
     → IsRun words from to before after status → IsFaultless from to before after → Tells before after status answer ⊎ (status ≡ NoMemory)
 tells words from to before after Done answer is run faultless = inl (finished_tells words from to before after Done answer is run)
 tells words from to before after Refused answer is run faultless = inl (finished_tells words from to before after Refused answer is run)
@@ -234,7 +240,7 @@ tells words from to before after NoMemory answer is run faultless = inr refl
 
 pub runs_tell_the_answer : AnswersAreOne → RunsTellTheAnswer
 runs_tell_the_answer one words bytes answer given from to before after status left run faultless =
-    tells words from to before after status answer (the_answer one from bytes left (command_of words) answer given) run faultless
+    tells words from to before after status answer (the_answer one from bytes left words answer given) run faultless
 
 pub runs_tell : AnswersExist → AnswersAreOne → RunsTellOneAnswer
 runs_tell every one words bytes =
@@ -267,18 +273,21 @@ read_answer : (words : List (List ℕ)) (command : Command) (from to : SourceSta
     → IsDefinedFor words from to answer → Commanded command from to answer
 read_answer words command from to answer asked does given =
     subst (λ b. MatchBool b (Commanded command from to answer) (Unmoved command from to answer)) does
-    (answered words command from to answer (reads_command words command asked) given)
+    (answered words command from to answer asked given)
 
-told_result : (link : LinkInput) (result : Result LayoutRecord LayoutError) (answer : Answer) → ((e : LayoutError) → IsDefined small64_machine link (Err e) → ⊥)
-    → IsDefined small64_machine link result → answer ≡ told_of link result → answer.status ≡ Done
-told_result link (Ok layout) answer unrefused defined is = ap (λ (a : Answer). a.status) is
-told_result link (Err e) answer unrefused defined is = absurd (unrefused e defined)
+-- what is told of a layout of a link that meets no refusal
+told_result : (told : LayoutRecord → Answer) (link : LinkInput) (result : Result LayoutRecord LayoutError) (answer : Answer)
+    → ((e : LayoutError) → IsDefined small64_machine link (Err e) → ⊥) → ((layout : LayoutRecord) → IsDefined small64_machine link (Ok layout) → (told layout).status ≡ Done)
+    → IsDefined small64_machine link result → answer ≡ told_of told result → answer.status ≡ Done
+told_result told link (Ok layout) answer unrefused ends defined is = ap (λ (a : Answer). a.status) is ∙ ends layout defined
+told_result told link (Err e) answer unrefused ends defined is = absurd (unrefused e defined)
 
 told_done : (workers : ℕ) (bytes : List ℕ) (held : Held) (answer : Answer) → DescribesLayout bytes → Holds (Some bytes) held
     → IsAnswerTo (commands.Layout workers) held answer → answer.status ≡ Done
 told_done workers bytes (Whole b) answer good holds is =
-    let answers : IsLayoutAnswer good.link answer = told_described IsLayoutAnswer bytes b answer good holds.1 is in
-    told_result good.link answers.0 answer good.unrefused answers.1 answers.2
+    let told : LinkInput → LayoutRecord → Answer = λ link layout. done (report link layout) in
+    let answers : TellsDefined told good.link answer = told_described (TellsDefined told) bytes b answer good holds.1 is in
+    told_result (told good.link) good.link answers.0 answer good.unrefused (λ layout defined. refl) answers.1 answers.2
 told_done workers bytes Longer answer good holds is = absurd (omega (arith, good.fits, holds))
 
 pub complete : (words : List (List ℕ)) (workers : ℕ) (bytes : List ℕ) (from to : SourceState) (before after : SinkState) (status : Status)
@@ -295,17 +304,12 @@ complete words workers bytes from to before after status asked left good run fau
 abbrev HaveImages : LinkInput → Type 0
 HaveImages link = (layout : LayoutRecord) → IsDefined small64_machine link (Ok layout) → image_refusal link layout ≡ None
 
-imaged_result : (link : LinkInput) (result : Result LayoutRecord LayoutError) (answer : Answer) → ((e : LayoutError) → IsDefined small64_machine link (Err e) → ⊥)
-    → HaveImages link → IsDefined small64_machine link result → answer ≡ image_told link result → answer.status ≡ Done
-imaged_result link (Ok layout) answer unrefused clear defined is =
-    ap (λ (a : Answer). a.status) (is ∙ ap (imaged link layout) (clear layout defined))
-imaged_result link (Err e) answer unrefused clear defined is = absurd (unrefused e defined)
-
 imaged_done : (workers : ℕ) (bytes : List ℕ) (held : Held) (answer : Answer) (good : DescribesLayout bytes) → HaveImages good.link → Holds (Some bytes) held
     → IsAnswerTo (commands.Image workers) held answer → answer.status ≡ Done
 imaged_done workers bytes (Whole b) answer good clear holds is =
-    let answers : IsImageAnswer good.link answer = told_described IsImageAnswer bytes b answer good holds.1 is in
-    imaged_result good.link answers.0 answer good.unrefused clear answers.1 answers.2
+    let answers : TellsDefined image_told good.link answer = told_described (TellsDefined image_told) bytes b answer good holds.1 is in
+    told_result (image_told good.link) good.link answers.0 answer good.unrefused
+    (λ layout defined. ap (λ (o : Option ImageError). (imaged good.link layout o).status) (clear layout defined)) answers.1 answers.2
 imaged_done workers bytes Longer answer good clear holds is = absurd (omega (arith, good.fits, holds))
 
 pub image_complete : (words : List (List ℕ)) (workers : ℕ) (bytes : List ℕ) (from to : SourceState) (before after : SinkState) (status : Status)
@@ -331,7 +335,7 @@ why_done bytes file index (Whole b) answer good holds is =
     let described : reading_of b ≡ Ok good.link = ap reading_of (sym holds.1) ∙ good.described in
     let answers : IsWhyAnswer file index good.link answer = subst (λ r. IsAnswerToReading (IsWhyAnswer file index) r answer) described is in
     section_done good.link file index answer good.there
-    (subst (λ o. MatchOption o (IsSectionAnswer good.link file index answer) (λ fault. answer ≡ refused (link_fault_line fault))) good.unfaulted answers)
+    (subst (λ o. MatchOption o (IsSectionAnswer good.link file index answer) (λ fault. answer ≡ refused (link_fault_text fault ++ codes "\n"))) good.unfaulted answers)
 why_done bytes file index Longer answer good holds is = absurd (omega (arith, good.fits, holds))
 
 pub why_complete : WhyRunsAreComplete
@@ -363,25 +367,18 @@ check_complete law words bytes from to before after status asked left map run fa
 
 -- ---- a generated link that meets no refusal
 
-summed_up_laid_out : (seed size : ℕ) (result : Result LayoutRecord LayoutError) (answer : Answer)
-    → ((e : LayoutError) → IsDefined small64_machine (generated_link seed size) (Err e) → ⊥)
-    → IsDefined small64_machine (generated_link seed size) result → answer ≡ summed_up seed size result → answer.status ≡ Done
-summed_up_laid_out seed size (Ok layout) answer unrefused defined is = ap (λ (a : Answer). a.status) is
-summed_up_laid_out seed size (Err e) answer unrefused defined is = absurd (unrefused e defined)
-
 generated_laid_out : (words : List (List ℕ)) (seed size : ℕ) (from to : SourceState) (before after : SinkState) (status : Status)
     → IsCommand words (commands.Gen seed size) → ((e : LayoutError) → IsDefined small64_machine (generated_link seed size) (Err e) → ⊥)
     → Finished words from to before after status → status ≡ Done
 generated_laid_out words seed size from to before after status asked unrefused run =
-    let given = answered words (commands.Gen seed size) from to run.answer (reads_command words (commands.Gen seed size) asked) run.defined in
-    run.same ∙ summed_up_laid_out seed size given.answers.0 run.answer unrefused given.answers.1 given.answers.2
+    let given = answered words (commands.Gen seed size) from to run.answer asked run.defined in
+    run.same ∙ told_result (λ layout. done (summary seed size layout)) (generated_link seed size) given.answers.0 run.answer unrefused (λ layout defined. refl) given.answers.1 given.answers.2
 
 -- what reads nothing meets no fault of the source
 never_unread : (words : List (List ℕ)) (seed size : ℕ) (from to : SourceState) (before after : SinkState) → IsCommand words (commands.Gen seed size)
     → Unread words from to before after → ⊥
 never_unread words seed size from to before after asked run =
-    let same : Some run.command ≡ Some (commands.Gen seed size) = sym run.asked ∙ reads_command words (commands.Gen seed size) asked in
-    let command : run.command ≡ commands.Gen seed size = cc in
+    let command : run.command ≡ commands.Gen seed size = one_command words run.command (commands.Gen seed size) run.asked asked in
     let reading : false ≡ true = subst (λ c. reads c ≡ true) command run.reading in
     absurd (cc)
 

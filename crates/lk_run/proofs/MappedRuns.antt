@@ -6,10 +6,11 @@ use Rattle.lk_layout.specs.Defined.{IsDefined}
 use Rattle.lk_layout.specs.LayoutRecord.{LayoutRecord}
 use Rattle.lk_layout.specs.Machines.{small64_machine}
 use Rattle.lk_layout.specs.declared.error.LayoutError.{LayoutError}
+use Rattle.lk_report.specs.Report.{report}
 use Rattle.lk_link.specs.declared.link.LinkInput.{LinkInput}
 use Rattle.lk_devices.specs.Device.{SinkState, SourceState}
 use Rattle.lk_run.specs.MappedRun.{IsMappedRun, TellsMap}
-use Rattle.lk_run.specs.Run.{Held, Holds, Longer, Takes, Whole, told_of}
+use Rattle.lk_run.specs.Run.{Held, Holds, Longer, Takes, Whole, done, told_of}
 use Rattle.lk_run.specs.Steps.{GivesInput, IsFailure, IsMadeFor, IsMadeTold, IsMappedAnswer, IsMappedCommand, IsMappedResult, IsToldBy, held_by}
 use Rattle.lk_run.specs.Words.{command_of}
 use Rattle.lk_run.specs.declared.answer.Answer.{Answer}
@@ -24,7 +25,7 @@ use Rattle.lk_run.proofs.SoundRuns.{done_reading}
 -- ---- a command
 
 told_layout : (from : SourceState) (before after : SinkState) (bytes : List ℕ) (link : LinkInput) (result : Result LayoutRecord LayoutError) (answer : Answer)
-    → Holds from.left (Whole bytes) → reading_of bytes ≡ Ok link → IsDefined small64_machine link result → answer ≡ told_of link result → IsMappedResult link result
+    → Holds from.left (Whole bytes) → reading_of bytes ≡ Ok link → IsDefined small64_machine link result → answer ≡ told_of (λ layout. done (report link layout)) result → IsMappedResult link result
     → Done ≡ answer.status → Takes before after answer.bytes → TellsMap from before after
 told_layout from before after bytes link (Ok layout) answer holds described defined is mapped status written =
     record {

@@ -1,8 +1,9 @@
 -- The steps of a run make the run that is promised.
-use Rattle.std.proofs.Common.{◌≡◌, ◌⊎◌, inl, inr, ℕ, Bool, true, false, List, [], Option, Some, None, Result, Ok, Err, sym, subst, ap, ◌∙◌, refl, true≢false}
-use Rattle.std.specs.Prelude.{IfOk, MatchBool, MatchOption}
+use Rattle.std.proofs.Common.{◌≡◌, ◌⊎◌, inl, inr, ℕ, Bool, true, false, List, [], ◌++◌, Option, Some, None, Result, Ok, Err, sym, subst, ap, ◌∙◌, refl, true≢false}
+use Rattle.std.specs.Prelude.{IfOk, MatchBool, MatchOption, codes}
 use Rattle.lk_input.specs.declared.read.error.InputError.{InputError}
 use Rattle.lk_input.specs.Reading.{reading_of}
+use Rattle.lk_generator.specs.Generated.{generated_link}
 use Rattle.lk_check.specs.FirstFault.{first_fault}
 use Rattle.lk_explain.specs.Faults.{has_unit}
 use Rattle.lk_image.specs.declared.error.ImageError.{ImageError}
@@ -10,6 +11,7 @@ use Rattle.lk_image.specs.Refusals.{image_refusal}
 use Rattle.lk_link.specs.declared.fault.LinkFault.{LinkFault}
 use Rattle.lk_link.specs.declared.ids.FileId.{FileId}
 use Rattle.lk_link.specs.declared.link.LinkInput.{LinkInput}
+use Rattle.lk_link.specs.Texts.{link_fault_text}
 use Rattle.lk_map.specs.declared.check.MapFault.{MapFault}
 use Rattle.lk_map.specs.declared.map_text.SectionLine.{SectionLine}
 use Rattle.lk_map.specs.declared.map_text.SegmentLine.{SegmentLine}
@@ -17,6 +19,8 @@ use Rattle.lk_map.specs.MapText.{map_of}
 use Rattle.lk_reach.specs.declared.units.Unit.TheVariants.{Sec}
 use Rattle.lk_layout.specs.declared.error.LayoutError.{LayoutError}
 use Rattle.lk_layout.specs.LayoutRecord.{LayoutRecord}
+use Rattle.lk_report.specs.Report.{report}
+use Rattle.lk_report.specs.Summary.{summary}
 use Rattle.lk_run.specs.declared.answer.Answer.{Answer}
 use Rattle.lk_run.specs.declared.inputs.CommandInput.{CommandInput}
 use Rattle.lk_run.specs.declared.inputs.CommandInput.TheVariants.{TooLong}
@@ -25,42 +29,34 @@ use Rattle.lk_run.specs.declared.status.Status.TheVariants.{Done, Refused, Usage
 use Rattle.lk_run.specs.declared.words.Command.{Command}
 use Rattle.lk_run.specs.declared.words.Command.TheVariants as commands
 use Rattle.lk_devices.specs.Device.{SourceState, SinkState}
-use Rattle.lk_run.specs.Run.{Held, Whole, Longer, Holds, IsReadUp, IsKept, IsAnswerOf, IsAnswerTo, IsAnswerToReading, IsImageAnswer, IsLayoutAnswer, IsMapAnswer, IsSectionAnswer, IsWayAnswer, IsWhyAnswer, judged, refused, IsAnswered, IsDefinedFor, Commanded, Unmoved, Uncommanded, IsRun, image_told, imaged, summed_up, told_of}
+use Rattle.lk_run.specs.Run.{Held, Whole, Longer, Holds, IsReadUp, IsKept, IsAnswerOf, IsAnswerTo, IsAnswerToReading, IsMapAnswer, IsSectionAnswer, IsWayAnswer, IsWhyAnswer, done, judged, refused, IsAnswered, IsDefinedFor, Commanded, Unmoved, Uncommanded, IsRun, TellsDefined, image_told, imaged, told_of}
 use Rattle.lk_run.specs.Steps.{GivesInput, IsCommandRun, IsFailure, IsMadeFor, IsMadeOf, IsMadeTold, IsMappedAnswer, IsToldBy, IsUsageRun, held_by}
-use Rattle.lk_run.specs.WhyTexts.{link_fault_line, no_section_text}
-use Rattle.lk_run.specs.Words.{command_of, reads, usage}
+use Rattle.lk_run.specs.WhyTexts.{no_section_text}
+use Rattle.lk_run.specs.Words.{IsCommand, command_of, reads, usage}
+use Rattle.lk_run.proofs.Commands.{command_is_read, no_command, one_command}
 
 -- ---- what an answer's status may be
 
 abbrev pub IsTold : Status → Type 0
 IsTold status = (status ≡ Done) ⊎ ((status ≡ Refused) ⊎ (status ≡ Unreadable))
 
-told_link : (link : LinkInput) (result : Result LayoutRecord LayoutError) → IsTold (told_of link result).status
-told_link link (Ok layout) = inl refl
-told_link link (Err e) = inr (inl refl)
+told_result : (told : LayoutRecord → Answer) (result : Result LayoutRecord LayoutError) → ((layout : LayoutRecord) → IsTold (told layout).status) → IsTold (told_of told result).status
+told_result told (Ok layout) each = each layout
+told_result told (Err e) each = inr (inl refl)
 
-told_laid_out : (link : LinkInput) (answer : Answer) → IsLayoutAnswer link answer → IsTold answer.status
-told_laid_out link answer is = subst (λ (a : Answer). IsTold a.status) (sym is.2) (told_link link is.0)
+-- what tells of each layout so tells of a link so
+told_defined : (told : LinkInput → LayoutRecord → Answer) (link : LinkInput) (answer : Answer) → ((layout : LayoutRecord) → IsTold (told link layout).status)
+    → TellsDefined told link answer → IsTold answer.status
+told_defined told link answer each is = subst (λ (a : Answer). IsTold a.status) (sym is.2) (told_result (told link) is.0 each)
 
 told_imaged : (link : LinkInput) (layout : LayoutRecord) (refusal : Option ImageError) → IsTold (imaged link layout refusal).status
 told_imaged link layout None = inl refl
 told_imaged link layout (Some e) = inr (inl refl)
 
-told_picture : (link : LinkInput) (result : Result LayoutRecord LayoutError) → IsTold (image_told link result).status
-told_picture link (Ok layout) = told_imaged link layout (image_refusal link layout)
-told_picture link (Err e) = inr (inl refl)
-
-told_image : (link : LinkInput) (answer : Answer) → IsImageAnswer link answer → IsTold answer.status
-told_image link answer is = subst (λ (a : Answer). IsTold a.status) (sym is.2) (told_picture link is.0)
-
 told_reading : (to_link : LinkInput → Answer → Type 0) (reading : Result LinkInput InputError) (answer : Answer)
     → ((link : LinkInput) → to_link link answer → IsTold answer.status) → IsAnswerToReading to_link reading answer → IsTold answer.status
 told_reading to_link (Ok link) answer told is = told link is
 told_reading to_link (Err e) answer told is = inr (inr (ap (λ (a : Answer). a.status) is))
-
-told_summed_up : (seed size : ℕ) (result : Result LayoutRecord LayoutError) → IsTold (summed_up seed size result).status
-told_summed_up seed size (Ok layout) = inl refl
-told_summed_up seed size (Err e) = inr (inl refl)
 
 told_refused : (text : List ℕ) (answer : Answer) → answer ≡ refused text → IsTold answer.status
 told_refused text answer is = inr (inl (ap (λ (a : Answer). a.status) is))
@@ -71,9 +67,9 @@ told_section link file index true answer is = inl (ap (λ (a : Answer). a.status
 told_section link file index false answer is = told_refused (no_section_text file index) answer is
 
 told_why : (file : FileId) (index : ℕ) (link : LinkInput) (found : Option LinkFault) (answer : Answer)
-    → MatchOption found (IsSectionAnswer link file index answer) (λ fault. answer ≡ refused (link_fault_line fault)) → IsTold answer.status
+    → MatchOption found (IsSectionAnswer link file index answer) (λ fault. answer ≡ refused (link_fault_text fault ++ codes "\n")) → IsTold answer.status
 told_why file index link None answer is = told_section link file index (has_unit link (Sec file index)) answer is
-told_why file index link (Some fault) answer is = told_refused (link_fault_line fault) answer is
+told_why file index link (Some fault) answer is = told_refused (link_fault_text fault ++ codes "\n") answer is
 
 told_judged : (sections : List SectionLine) (segments : List SegmentLine) (verdict : Result (Unit {0}) MapFault) → IsTold (judged sections segments verdict).status
 told_judged sections segments (Ok u) = inl refl
@@ -85,12 +81,16 @@ told_map (Err line) answer is = inr (inr (ap (λ (a : Answer). a.status) is))
 
 -- a case for each command
 told_command : (command : Command) (bytes : List ℕ) (answer : Answer) → IsAnswerOf command bytes answer → IsTold answer.status
-told_command (commands.Layout workers) bytes answer is = told_reading IsLayoutAnswer (reading_of bytes) answer (λ link. told_laid_out link answer) is
-told_command (commands.Gen seed size) bytes answer is = subst (λ (a : Answer). IsTold a.status) (sym is.2) (told_summed_up seed size is.0)
+told_command (commands.Layout workers) bytes answer is =
+    let told : LinkInput → LayoutRecord → Answer = λ link layout. done (report link layout) in
+    told_reading (TellsDefined told) (reading_of bytes) answer (λ link. told_defined told link answer (λ layout. inl refl)) is
+told_command (commands.Gen seed size) bytes answer is =
+    told_defined (λ link layout. done (summary seed size layout)) (generated_link seed size) answer (λ layout. inl refl) is
 told_command (commands.Why file index) bytes answer is =
     told_reading (IsWhyAnswer file index) (reading_of bytes) answer (λ link. told_why file index link (first_fault link) answer) is
 told_command commands.Check bytes answer is = told_map (map_of bytes) answer is
-told_command (commands.Image workers) bytes answer is = told_reading IsImageAnswer (reading_of bytes) answer (λ link. told_image link answer) is
+told_command (commands.Image workers) bytes answer is =
+    told_reading (TellsDefined image_told) (reading_of bytes) answer (λ link. told_defined image_told link answer (λ layout. told_imaged link layout (image_refusal link layout))) is
 
 told_held : (command : Command) (held : Held) (answer : Answer) → IsAnswerTo command held answer → IsTold answer.status
 told_held command (Whole bytes) answer is = told_command command bytes answer is
@@ -139,7 +139,8 @@ too_long_answers (Ok answer) command input is given = subst (λ i. IsMadeFor com
 too_long_answers (Err e) command input is given = given
 
 -- what was made for a command answers it
-made_reading : (reading : Result LinkInput InputError) (answer : Answer) → IsAnswerToReading IsMappedAnswer reading answer → IsAnswerToReading IsLayoutAnswer reading answer
+made_reading : (reading : Result LinkInput InputError) (answer : Answer) → IsAnswerToReading IsMappedAnswer reading answer
+    → IsAnswerToReading (TellsDefined (λ link layout. done (report link layout))) reading answer
 made_reading (Ok link) answer is = (is.0, is.1, is.2)
 made_reading (Err e) answer is = is
 
@@ -166,17 +167,20 @@ made_run command input (Err e) from to before after status given is told =
 
 defined : (words : List (List ℕ)) (command : Command) (from to : SourceState) (answer : Answer) → command_of words ≡ Some command → IsAnswered command from to answer
     → IsDefinedFor words from to answer
-defined words command from to answer is given = subst (λ o. MatchOption o (Uncommanded from to answer) (λ c. IsAnswered c from to answer)) (sym is) given
+defined words command from to answer is given = inl (command, command_is_read words command is, given)
 
 -- the answer of words that are a command
-pub answered : (words : List (List ℕ)) (command : Command) (from to : SourceState) (answer : Answer) → command_of words ≡ Some command → IsDefinedFor words from to answer
+pub answered : (words : List (List ℕ)) (command : Command) (from to : SourceState) (answer : Answer) → IsCommand words command → IsDefinedFor words from to answer
     → IsAnswered command from to answer
-answered words command from to answer is given = subst (λ o. MatchOption o (Uncommanded from to answer) (λ c. IsAnswered c from to answer)) is given
+answered words command from to answer asked (inl told) = subst (λ c. IsAnswered c from to answer) (one_command words told.0 command told.1 asked) told.2
+answered words command from to answer asked (inr unasked) = absurd (unasked.none command asked)
 
 failed_run : (words : List (List ℕ)) (command : Command) (from to : SourceState) (before after : SinkState) (status : Status)
     → command_of words ≡ Some command → IsFailure command status from to → IsKept before after → IsRun words from to before after status
-failed_run words command from to before after ReadFault is why kept = record { command = command; asked = is; reading = why.0; faulty = why.1; kept = kept }
-failed_run words command from to before after NoMemory is why kept = record { command = command; asked = is; faultless = why; kept = kept }
+failed_run words command from to before after ReadFault is why kept =
+    record { command = command; asked = command_is_read words command is; reading = why.0; faulty = why.1; kept = kept }
+failed_run words command from to before after NoMemory is why kept =
+    record { command = command; asked = command_is_read words command is; faultless = why; kept = kept }
 failed_run words command from to before after Done is why kept = absurd why
 failed_run words command from to before after Refused is why kept = absurd why
 failed_run words command from to before after Usage is why kept = absurd why
@@ -211,8 +215,8 @@ pub usage_run : (words : List (List ℕ)) (from : SourceState) (before after : S
     → IsRun words from from before after status
 usage_run words from before after status none told =
     let answer : Answer = record { status = Usage; bytes = usage } in
-    let given : Uncommanded from from answer = record { untouched = refl; answers = refl } in
-    let is_defined : IsDefinedFor words from from answer = subst (λ o. MatchOption o (Uncommanded from from answer) (λ c. IsAnswered c from from answer)) (sym none) given in
+    let given : Uncommanded words from from answer = record { none = λ command. no_command words command none; untouched = refl; answers = refl } in
+    let is_defined : IsDefinedFor words from from answer = inr given in
     let run : Status → Type 0 = λ s. IsRun words from from before after s in
     elim told [
       | inl whole ↦ subst run (sym whole.0) (record { answer = answer; defined = is_defined; same = refl; written = whole.1 })

@@ -10,10 +10,12 @@ use Rattle.lk_image.specs.Laws.{ImagesAreMade}
 use Rattle.lk_image.specs.Refusals.{image_refusal}
 use Rattle.lk_link.specs.declared.link.LinkInput.{LinkInput}
 use Rattle.lk_layout.specs.Machines.{IsLawfulMachine, small64_machine}
-use Rattle.lk_layout.specs.Made.{made_of}
 use Rattle.lk_layout.specs.declared.error.LayoutError.{LayoutError}
 use Rattle.lk_layout.specs.LayoutRecord.{LayoutRecord}
+use Rattle.lk_layout.specs.Made.{made_of}
 use Rattle.lk_layout.specs.Defined.{IsDefined}
+use Rattle.lk_report.specs.Report.{report}
+use Rattle.lk_report.specs.Summary.{summary}
 use Rattle.lk_soundness.specs.Laws.{DefinedLayoutsAreSound}
 use Rattle.lk_map.specs.declared.check.MapFault.{MapFault}
 use Rattle.lk_map.specs.Lines.{Line}
@@ -26,31 +28,32 @@ use Rattle.lk_run.specs.declared.status.Status.{Status}
 use Rattle.lk_run.specs.declared.status.Status.TheVariants.{Done, Refused, Unreadable}
 use Rattle.lk_run.specs.declared.words.Command.TheVariants as commands
 use Rattle.lk_devices.specs.Device.{SourceState, SinkState}
-use Rattle.lk_run.specs.Run.{Held, Whole, Longer, Holds, Takes, IsAnswerTo, IsAnswerToReading, IsImageAnswer, IsLayoutAnswer, Finished, IsMapAnswer, IsRun, image_told, imaged, judged, summed_up, told_of}
-use Rattle.lk_run.specs.SoundRun.{TellsGoodMap, TellsImage, TellsSoundLayout, TellsSoundSummary, IsSoundRun}
+use Rattle.lk_run.specs.Run.{Held, Whole, Longer, Holds, Takes, IsAnswerTo, IsAnswerToReading, Finished, IsMapAnswer, IsRun, TellsDefined, done, image_told, imaged, judged, told_of}
+use Rattle.lk_run.specs.SoundRun.{TellsGoodMap, TellsImage, TellsSoundLayout, TellsSoundSummary, IsSoundLayoutOf, IsSoundRun}
 use Rattle.lk_run.specs.Words.{IsCommand}
-use Rattle.lk_run.proofs.Commands.{reads_command}
 use Rattle.lk_run.proofs.RunLaws.{answered}
 
 -- what the laws say of the small machine: a defined layout of it is sound
 abbrev SmallLayoutsAreSound : Type 0
 SmallLayoutsAreSound = DefinedLayoutsAreSound × IsLawfulMachine small64_machine
 
+sound_layout : SmallLayoutsAreSound → (link : LinkInput) (layout : LayoutRecord) → IsDefined small64_machine link (Ok layout) → IsSoundLayoutOf link layout
+sound_layout law link layout defined =
+    let sound = law.0 small64_machine link layout law.1 defined in
+    record { defined = defined; made = made_of small64_machine link sound.0 sound.1; of = refl; machine = refl; sound = sound.2 }
+
 -- an answer with the status of a layout is its report
 told_layout : SmallLayoutsAreSound → (from : SourceState) (before after : SinkState) (bytes : List ℕ) (link : LinkInput) (result : Result LayoutRecord LayoutError) (answer : Answer)
-    → Holds from.left (Whole bytes) → reading_of bytes ≡ Ok link → IsDefined small64_machine link result → answer ≡ told_of link result → Done ≡ answer.status → Takes before after answer.bytes
-    → TellsSoundLayout from before after
+    → Holds from.left (Whole bytes) → reading_of bytes ≡ Ok link → IsDefined small64_machine link result
+    → answer ≡ told_of (λ layout. done (report link layout)) result → Done ≡ answer.status → Takes before after answer.bytes → TellsSoundLayout from before after
 told_layout law from before after bytes link (Ok layout) answer holds described defined is status written =
-    let sound = law.0 small64_machine link layout law.1 defined in
     record {
       bytes = bytes;
       holds = holds;
-      made = made_of small64_machine link sound.0 sound.1;
+      link = link;
       described = described;
-      machine = refl;
       layout = layout;
-      defined = defined;
-      sound = sound.2;
+      sound = sound_layout law link layout defined;
       written = subst (Takes before after) (ap (λ (a : Answer). a.bytes) is) written;
     }
 told_layout law from before after bytes link (Err e) answer holds described defined is status written =
@@ -69,7 +72,7 @@ told_held : SmallLayoutsAreSound → (from : SourceState) (before after : SinkSt
     → Holds from.left held → IsAnswerTo (commands.Layout workers) held answer → Done ≡ answer.status → Takes before after answer.bytes
     → TellsSoundLayout from before after
 told_held law from before after workers (Whole bytes) answer holds is status written =
-    let found = done_reading IsLayoutAnswer (reading_of bytes) answer is status in
+    let found = done_reading (TellsDefined (λ link layout. done (report link layout))) (reading_of bytes) answer is status in
     told_layout law from before after bytes found.0 found.2.0 answer holds found.1 found.2.1 found.2.2 status written
 told_held law from before after workers Longer answer holds is status written =
     let unreadable : Done ≡ Unreadable = status ∙ ap (λ (a : Answer). a.status) is in
@@ -77,17 +80,12 @@ told_held law from before after workers Longer answer holds is status written =
 
 -- an answer to a seed and a number of objects, with the status of a layout, is its line
 told_summary : SmallLayoutsAreSound → (seed size : ℕ) (before after : SinkState) (result : Result LayoutRecord LayoutError) (answer : Answer)
-    → IsDefined small64_machine (generated_link seed size) result → answer ≡ summed_up seed size result → Done ≡ answer.status → Takes before after answer.bytes
-    → TellsSoundSummary seed size before after
+    → IsDefined small64_machine (generated_link seed size) result → answer ≡ told_of (λ layout. done (summary seed size layout)) result → Done ≡ answer.status
+    → Takes before after answer.bytes → TellsSoundSummary seed size before after
 told_summary law seed size before after (Ok layout) answer defined is status written =
-    let sound = law.0 small64_machine (generated_link seed size) layout law.1 defined in
     record {
-      made = made_of small64_machine (generated_link seed size) sound.0 sound.1;
-      generated = refl;
-      machine = refl;
       layout = layout;
-      defined = defined;
-      sound = sound.2;
+      sound = sound_layout law (generated_link seed size) layout defined;
       written = subst (Takes before after) (ap (λ (a : Answer). a.bytes) is) written;
     }
 told_summary law seed size before after (Err e) answer defined is status written =
@@ -97,15 +95,13 @@ told_summary law seed size before after (Err e) answer defined is status written
 read_run : SmallLayoutsAreSound → (words : List (List ℕ)) (workers : ℕ) (from to : SourceState) (before after : SinkState)
     → IsCommand words (commands.Layout workers) → Finished words from to before after Done → TellsSoundLayout from before after
 read_run law words workers from to before after asked run =
-    let read = reads_command words (commands.Layout workers) asked in
-    let given = answered words (commands.Layout workers) from to run.answer read run.defined in
+    let given = answered words (commands.Layout workers) from to run.answer asked run.defined in
     told_held law from before after workers given.held run.answer given.holds given.answers run.same run.written
 
 gen_run : SmallLayoutsAreSound → (words : List (List ℕ)) (seed size : ℕ) (from to : SourceState) (before after : SinkState)
     → IsCommand words (commands.Gen seed size) → Finished words from to before after Done → TellsSoundSummary seed size before after
 gen_run law words seed size from to before after asked run =
-    let read = reads_command words (commands.Gen seed size) asked in
-    let given = answered words (commands.Gen seed size) from to run.answer read run.defined in
+    let given = answered words (commands.Gen seed size) from to run.answer asked run.defined in
     told_summary law seed size before after given.answers.0 run.answer given.answers.1 given.answers.2 run.same run.written
 
 -- ---- images
@@ -118,22 +114,19 @@ unrefused link layout (Some e) answer is status =
     absurd (cc)
 
 told_image : SmallLayoutsAreSound → ImagesAreMade → (from : SourceState) (before after : SinkState) (bytes : List ℕ) (link : LinkInput) (result : Result LayoutRecord LayoutError) (answer : Answer)
-    → Holds from.left (Whole bytes) → reading_of bytes ≡ Ok link → IsDefined small64_machine link result → answer ≡ image_told link result → Done ≡ answer.status → Takes before after answer.bytes
+    → Holds from.left (Whole bytes) → reading_of bytes ≡ Ok link → IsDefined small64_machine link result → answer ≡ told_of (image_told link) result → Done ≡ answer.status → Takes before after answer.bytes
     → TellsImage from before after
 told_image law images from before after bytes link (Ok layout) answer holds described defined is status written =
-    let sound = law.0 small64_machine link layout law.1 defined in
     let none : image_refusal link layout ≡ None = unrefused link layout (image_refusal link layout) answer is status in
     let laid : IsLayoutOf link layout = record { machine = small64_machine; lawful = law.1; defined = defined } in
     let made = images link layout laid none in
     record {
       bytes = bytes;
       holds = holds;
-      made = made_of small64_machine link sound.0 sound.1;
+      link = link;
       described = described;
-      machine = refl;
       layout = layout;
-      defined = defined;
-      sound = sound.2;
+      sound = sound_layout law link layout defined;
       apart = made.0;
       written = subst (Takes before after) (ap (λ (a : Answer). a.bytes) (is ∙ ap (imaged link layout) none)) written;
       stands = made.1;
@@ -146,7 +139,7 @@ imaged_held : SmallLayoutsAreSound → ImagesAreMade → (from : SourceState) (b
     → Holds from.left held → IsAnswerTo (commands.Image workers) held answer → Done ≡ answer.status → Takes before after answer.bytes
     → TellsImage from before after
 imaged_held law images from before after workers (Whole bytes) answer holds is status written =
-    let found = done_reading IsImageAnswer (reading_of bytes) answer is status in
+    let found = done_reading (TellsDefined image_told) (reading_of bytes) answer is status in
     told_image law images from before after bytes found.0 found.2.0 answer holds found.1 found.2.1 found.2.2 status written
 imaged_held law images from before after workers Longer answer holds is status written =
     let unreadable : Done ≡ Unreadable = status ∙ ap (λ (a : Answer). a.status) is in
@@ -155,8 +148,7 @@ imaged_held law images from before after workers Longer answer holds is status w
 image_run : SmallLayoutsAreSound → ImagesAreMade → (words : List (List ℕ)) (workers : ℕ) (from to : SourceState) (before after : SinkState)
     → IsCommand words (commands.Image workers) → Finished words from to before after Done → TellsImage from before after
 image_run law images words workers from to before after asked run =
-    let read = reads_command words (commands.Image workers) asked in
-    let given = answered words (commands.Image workers) from to run.answer read run.defined in
+    let given = answered words (commands.Image workers) from to run.answer asked run.defined in
     imaged_held law images from before after workers given.held run.answer given.holds given.answers run.same run.written
 
 -- ---- maps
@@ -197,8 +189,7 @@ checked_held law from before after Longer answer holds is status written =
 check_run : ReadsMaps → (words : List (List ℕ)) (from to : SourceState) (before after : SinkState) → IsCommand words commands.Check
     → Finished words from to before after Done → TellsGoodMap from before after
 check_run law words from to before after asked run =
-    let read = reads_command words commands.Check asked in
-    let given = answered words commands.Check from to run.answer read run.defined in
+    let given = answered words commands.Check from to run.answer asked run.defined in
     checked_held law from before after given.held run.answer given.holds given.answers run.same run.written
 
 pub sound_run : SmallLayoutsAreSound → ImagesAreMade → ReadsMaps → (words : List (List ℕ)) (from to : SourceState) (before after : SinkState) (status : Status) → IsRun words from to before after status

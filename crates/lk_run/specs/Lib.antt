@@ -1,6 +1,5 @@
 pub mod Complete
 pub mod FaultText
-pub mod ImageTexts
 pub mod MapTexts
 pub mod MappedRun
 pub mod Numbers

@@ -1,5 +1,5 @@
 -- What a run does: the one answer that its words and its input define, or the fault that kept it from that.
-use Rattle.std.specs.Prelude.{◌≡◌, ℕ, ◌+◌, ◌≤◌, ◌<◌, true, List, [], length, drop, Option, Some, None, Result, Ok, Err, IfSome}
+use Rattle.std.specs.Prelude.{◌≡◌, ℕ, ◌+◌, ◌≤◌, ◌<◌, ◌⊎◌, ◌++◌, true, List, [], codes, length, drop, Option, Some, None, Result, Ok, Err, IfSome}
 use Rattle.std.specs.Prelude.{MatchBool, MatchOption}
 use Rattle.lk_input.specs.declared.read.error.InputError.{InputError}
 use Rattle.lk_input.specs.Reading.{reading_of}
@@ -9,8 +9,10 @@ use Rattle.lk_explain.specs.Faults.{has_unit}
 use Rattle.lk_image.specs.declared.error.ImageError.{ImageError}
 use Rattle.lk_image.specs.Image.{image_of}
 use Rattle.lk_image.specs.Refusals.{image_refusal}
+use Rattle.lk_image.specs.Texts.{error_text}
 use Rattle.lk_link.specs.declared.ids.FileId.{FileId}
 use Rattle.lk_link.specs.declared.link.LinkInput.{LinkInput}
+use Rattle.lk_link.specs.Texts.{link_fault_text}
 use Rattle.lk_map.specs.declared.check.MapFault.{MapFault}
 use Rattle.lk_map.specs.declared.map_text.SectionLine.{SectionLine}
 use Rattle.lk_map.specs.declared.map_text.SegmentLine.{SegmentLine}
@@ -32,11 +34,10 @@ use Rattle.lk_devices.specs.Device.{SourceState, SinkState, Appends, AppendsPref
 use Rattle.lk_run.specs.FaultText.{fault_text_of, input_fault_text_of}
 use Rattle.lk_report.specs.Report.{report}
 use Rattle.lk_report.specs.Summary.{summary}
-use Rattle.lk_run.specs.ImageTexts.{no_image_line}
 use Rattle.lk_run.specs.MapTexts.{good_map_text, map_fault_text, no_map_text}
 use Rattle.lk_run.specs.TooLong.{too_long_text}
-use Rattle.lk_run.specs.WhyTexts.{IsWay, link_fault_line, no_section_text, why_text}
-use Rattle.lk_run.specs.Words.{command_of, reads, usage}
+use Rattle.lk_run.specs.WhyTexts.{IsWay, no_section_text, why_text}
+use Rattle.lk_run.specs.Words.{IsCommand, reads, usage}
 
 -- ---- answers
 
@@ -59,44 +60,23 @@ IsAnswerToReading to_link (Err e) answer = answer ≡ unreadable (input_fault_te
 
 -- ---- of a layout
 
--- what is told of a link and its layout, or of why it has none
-abbrev pub told_of : LinkInput → Result LayoutRecord LayoutError → Answer
-told_of link (Ok layout) = done (report link layout)
-told_of link (Err e) = refused (fault_text_of e)
+-- what is told of a link's layout, or why it has none
+abbrev pub told_of : (LayoutRecord → Answer) → Result LayoutRecord LayoutError → Answer
+told_of told (Ok layout) = told layout
+told_of told (Err e) = refused (fault_text_of e)
 
--- the answer to a link: what this tells of its defined answer on the small platform
-abbrev pub TellsDefined : (LinkInput → Result LayoutRecord LayoutError → Answer) → LinkInput → Answer → Type 0
-TellsDefined told link answer = (result : Result LayoutRecord LayoutError) × IsDefined small64_machine link result × (answer ≡ told link result)
-
--- the answer to a link that is laid out
-abbrev pub IsLayoutAnswer : LinkInput → Answer → Type 0
-IsLayoutAnswer link answer = TellsDefined told_of link answer
-
--- what is told of a generated link's layout, or of why it has none
-abbrev pub summed_up : ℕ → ℕ → Result LayoutRecord LayoutError → Answer
-summed_up seed size (Ok layout) = done (summary seed size layout)
-summed_up seed size (Err e) = refused (fault_text_of e)
-
--- the answer to a seed and a number of objects: what is told of the defined answer of the link that they give, on the small platform
-abbrev pub IsGeneratedAnswer : ℕ → ℕ → Answer → Type 0
-IsGeneratedAnswer seed size answer =
-    (result : Result LayoutRecord LayoutError) × IsDefined small64_machine (generated_link seed size) result × (answer ≡ summed_up seed size result)
-
--- ---- of an image
+-- the answer to a link: what this tells of it and its defined layout on the small platform, or why it has none
+abbrev pub TellsDefined : (LinkInput → LayoutRecord → Answer) → LinkInput → Answer → Type 0
+TellsDefined told link answer = (result : Result LayoutRecord LayoutError) × IsDefined small64_machine link result × (answer ≡ told_of (told link) result)
 
 -- what is told of a layout whose image is refused for this reason, if for any
 abbrev pub imaged : LinkInput → LayoutRecord → Option ImageError → Answer
 imaged link layout None = done (image_of link layout)
-imaged link layout (Some e) = refused (no_image_line e)
+imaged link layout (Some e) = refused (error_text e ++ codes "\n")
 
--- what is told of the image of a link and its layout, or of why it has none
-abbrev pub image_told : LinkInput → Result LayoutRecord LayoutError → Answer
-image_told link (Ok layout) = imaged link layout (image_refusal link layout)
-image_told link (Err e) = refused (fault_text_of e)
-
--- the answer to a link whose image is written
-abbrev pub IsImageAnswer : LinkInput → Answer → Type 0
-IsImageAnswer link answer = TellsDefined image_told link answer
+-- what is told of a link and its layout by their image
+abbrev pub image_told : LinkInput → LayoutRecord → Answer
+image_told link layout = imaged link layout (image_refusal link layout)
 
 -- ---- of why a section is kept
 
@@ -111,7 +91,7 @@ IsSectionAnswer link file index answer =
 
 -- the answer to a link: its first fault as a check tells it, if it has one; else that. Nothing is said of its layout
 abbrev pub IsWhyAnswer : FileId → ℕ → LinkInput → Answer → Type 0
-IsWhyAnswer file index link answer = MatchOption (first_fault link) (IsSectionAnswer link file index answer) (λ fault. answer ≡ refused (link_fault_line fault))
+IsWhyAnswer file index link answer = MatchOption (first_fault link) (IsSectionAnswer link file index answer) (λ fault. answer ≡ refused (link_fault_text fault ++ codes "\n"))
 
 -- ---- of a map
 
@@ -127,13 +107,14 @@ IsMapAnswer (Err line) answer = answer ≡ unreadable (no_map_text line)
 
 -- ---- of a command
 
--- the answer of a command to all bytes of its source; a command that reads nothing has one answer, whatever the bytes
+-- the answer of a command to all bytes of its source: of `layout` the report, of `gen` the line of the link that its words give, whatever the
+-- bytes, of `why` the way to a section, of `check` the verdict on a map, and of `image` the image; or why there is none
 abbrev pub IsAnswerOf : Command → List ℕ → Answer → Type 0
-IsAnswerOf (commands.Layout workers) bytes answer = IsAnswerToReading IsLayoutAnswer (reading_of bytes) answer
-IsAnswerOf (commands.Gen seed size) bytes answer = IsGeneratedAnswer seed size answer
+IsAnswerOf (commands.Layout workers) bytes answer = IsAnswerToReading (TellsDefined (λ link layout. done (report link layout))) (reading_of bytes) answer
+IsAnswerOf (commands.Gen seed size) bytes answer = TellsDefined (λ link layout. done (summary seed size layout)) (generated_link seed size) answer
 IsAnswerOf (commands.Why file index) bytes answer = IsAnswerToReading (IsWhyAnswer file index) (reading_of bytes) answer
 IsAnswerOf commands.Check bytes answer = IsMapAnswer (map_of bytes) answer
-IsAnswerOf (commands.Image workers) bytes answer = IsAnswerToReading IsImageAnswer (reading_of bytes) answer
+IsAnswerOf (commands.Image workers) bytes answer = IsAnswerToReading (TellsDefined image_told) (reading_of bytes) answer
 
 -- what a source holds: all its bytes, or more than are read
 pub data Held : Type 0 where
@@ -193,14 +174,15 @@ abbrev pub IsAnswered : Command → SourceState → SourceState → Answer → T
 IsAnswered command from to answer = MatchBool (reads command) (Commanded command from to answer) (Unmoved command from to answer)
 
 -- the answer to words that are no command: nothing is read
-pub record Uncommanded (from to : SourceState) (answer : Answer) : Type 0 where
+pub record Uncommanded (words : List (List ℕ)) (from to : SourceState) (answer : Answer) : Type 0 where
+  pub none : (command : Command) → IsCommand words command → ⊥
   pub untouched : to ≡ from
   pub answers : answer ≡ record { status = Usage; bytes = usage }
 
 -- the answer to the words and the input
 abbrev pub IsDefinedFor : List (List ℕ) → SourceState → SourceState → Answer → Type 0
 IsDefinedFor words from to answer =
-    MatchOption (command_of words) (Uncommanded from to answer) (λ command. IsAnswered command from to answer)
+    ((command : Command) × IsCommand words command × IsAnswered command from to answer) ⊎ Uncommanded words from to answer
 
 -- the sink took the bytes of the answer, whose status this is
 pub record Finished (words : List (List ℕ)) (from to : SourceState) (before after : SinkState) (status : Status) : Type 0 where
@@ -218,7 +200,7 @@ pub record CutOff (words : List (List ℕ)) (from to : SourceState) (before afte
 -- the source failed on a command that reads it, and nothing was written
 pub record Unread (words : List (List ℕ)) (from to : SourceState) (before after : SinkState) : Type 0 where
   pub command : Command
-  pub asked : command_of words ≡ Some command
+  pub asked : IsCommand words command
   pub reading : reads command ≡ true
   pub faulty : from.faults < to.faults
   pub kept : IsKept before after
@@ -230,7 +212,7 @@ IsUnfailed command from to = MatchBool (reads command) (to.faults ≡ from.fault
 -- memory ran out on a command, and nothing was written
 pub record OutOfMemory (words : List (List ℕ)) (from to : SourceState) (before after : SinkState) : Type 0 where
   pub command : Command
-  pub asked : command_of words ≡ Some command
+  pub asked : IsCommand words command
   pub faultless : IsUnfailed command from to
   pub kept : IsKept before after
 
@@ -240,7 +222,4 @@ abbrev pub IsRun : List (List ℕ) → SourceState → SourceState → SinkState
 IsRun words from to before after ReadFault = Unread words from to before after
 IsRun words from to before after WriteFault = CutOff words from to before after
 IsRun words from to before after NoMemory = OutOfMemory words from to before after
-IsRun words from to before after Done = Finished words from to before after Done
-IsRun words from to before after Refused = Finished words from to before after Refused
-IsRun words from to before after Unreadable = Finished words from to before after Unreadable
-IsRun words from to before after Usage = Finished words from to before after Usage
+IsRun words from to before after status = Finished words from to before after status

@@ -11,6 +11,7 @@ use Rattle.lk_layout.specs.LayoutRecord.{LayoutRecord}
 use Rattle.lk_layout.specs.Defined.{IsDefined}
 use Rattle.lk_layout.specs.Machines.{small64_machine}
 use Rattle.lk_layout.specs.Made.{Made}
+use Rattle.lk_link.specs.declared.link.LinkInput.{LinkInput}
 use Rattle.lk_soundness.specs.Sound.{IsSound}
 use Rattle.lk_map.specs.Good.{IsGood}
 use Rattle.lk_map.specs.Lines.{Line}
@@ -26,26 +27,28 @@ use Rattle.lk_run.specs.Run.{Whole, Holds, IsRun, Takes}
 use Rattle.lk_report.specs.Summary.{summary}
 use Rattle.lk_run.specs.Words.{IsCommand}
 
+-- the defined layout of a link on the small platform, and it is sound
+pub record IsSoundLayoutOf (link : LinkInput) (layout : LayoutRecord) : Type 0 where
+  pub defined : IsDefined small64_machine link (Ok layout)
+  pub made : Made
+  pub of : made.link ≡ link
+  pub machine : made.machine ≡ small64_machine
+  pub sound : IsSound made layout
+
 -- the source held bytes that describe a link; the link's defined layout is sound; and the sink took its report
 pub record TellsSoundLayout (from : SourceState) (before after : SinkState) : Type 0 where
   pub bytes : List ℕ
   pub holds : Holds from.left (Whole bytes)
-  pub made : Made
-  pub described : reading_of bytes ≡ Ok made.link
-  pub machine : made.machine ≡ small64_machine
+  pub link : LinkInput
+  pub described : reading_of bytes ≡ Ok link
   pub layout : LayoutRecord
-  pub defined : IsDefined small64_machine made.link (Ok layout)
-  pub sound : IsSound made layout
-  pub written : Takes before after (report made.link layout)
+  pub sound : IsSoundLayoutOf link layout
+  pub written : Takes before after (report link layout)
 
 -- the defined layout of the link that a seed and a number of objects give is sound; and the sink took its line
 pub record TellsSoundSummary (seed size : ℕ) (before after : SinkState) : Type 0 where
-  pub made : Made
-  pub generated : made.link ≡ generated_link seed size
-  pub machine : made.machine ≡ small64_machine
   pub layout : LayoutRecord
-  pub defined : IsDefined small64_machine made.link (Ok layout)
-  pub sound : IsSound made layout
+  pub sound : IsSoundLayoutOf (generated_link seed size) layout
   pub written : Takes before after (summary seed size layout)
 
 -- the source held the map of some lines, whose sections and segments are good; and the sink took how many these are
@@ -62,15 +65,13 @@ pub record TellsGoodMap (from : SourceState) (before after : SinkState) : Type 0
 pub record TellsImage (from : SourceState) (before after : SinkState) : Type 0 where
   pub bytes : List ℕ
   pub holds : Holds from.left (Whole bytes)
-  pub made : Made
-  pub described : reading_of bytes ≡ Ok made.link
-  pub machine : made.machine ≡ small64_machine
+  pub link : LinkInput
+  pub described : reading_of bytes ≡ Ok link
   pub layout : LayoutRecord
-  pub defined : IsDefined small64_machine made.link (Ok layout)
-  pub sound : IsSound made layout
-  pub apart : AreApart (stretches made.link layout)
-  pub written : Takes before after (image_of made.link layout)
-  pub stands : IsMadeOf (image_length layout) (stretches made.link layout) (image_of made.link layout)
+  pub sound : IsSoundLayoutOf link layout
+  pub apart : AreApart (stretches link layout)
+  pub written : Takes before after (image_of link layout)
+  pub stands : IsMadeOf (image_length layout) (stretches link layout) (image_of link layout)
 
 -- a run that ends with the status of what is done has told a sound layout, or read a good map, or written the image of a sound layout
 pub record IsSoundRun (words : List (List ℕ)) (from : SourceState) (before after : SinkState) (status : Status) : Type 0 where

@@ -7,6 +7,7 @@ use Rattle.lk_layout.specs.Defined.{IsDefined}
 use Rattle.lk_layout.specs.LayoutRecord.{LayoutRecord}
 use Rattle.lk_layout.specs.Machines.{small64_machine}
 use Rattle.lk_link.specs.declared.link.LinkInput.{LinkInput}
+use Rattle.lk_report.specs.Report.{report}
 use Rattle.lk_report_maps.specs.MappedReports.{IsMapped}
 use Rattle.lk_run.specs.declared.answer.Answer.{Answer}
 use Rattle.lk_run.specs.declared.inputs.CommandInput.{CommandInput}
@@ -19,7 +20,7 @@ use Rattle.lk_run.specs.declared.words.Command.{Command}
 use Rattle.lk_run.specs.declared.words.Command.TheVariants as commands
 use Rattle.lk_devices.specs.Device.{SourceState, SinkState}
 use Rattle.lk_run.specs.MappedRun.{TellsMap}
-use Rattle.lk_run.specs.Run.{Held, Holds, Whole, Longer, IsAnswerOf, IsAnswerTo, IsAnswerToReading, IsAnswered, IsKept, IsUnfailed, Takes, TakesPrefix, told_of}
+use Rattle.lk_run.specs.Run.{Held, Holds, Whole, Longer, IsAnswerOf, IsAnswerTo, IsAnswerToReading, IsAnswered, IsKept, IsUnfailed, Takes, TakesPrefix, done, told_of}
 use Rattle.lk_run.specs.Words.{IsCommand, reads, usage}
 
 -- words can ask for the command
@@ -62,7 +63,8 @@ IsMappedResult link (Err e) = Unit {0}
 -- the answer to a link that is laid out, and the report that it tells is a map
 abbrev pub IsMappedAnswer : LinkInput → Answer → Type 0
 IsMappedAnswer link answer =
-    (result : Result LayoutRecord LayoutError) × IsDefined small64_machine link result × (answer ≡ told_of link result) × IsMappedResult link result
+    (result : Result LayoutRecord LayoutError) × IsDefined small64_machine link result × (answer ≡ told_of (λ layout. done (report link layout)) result)
+    × IsMappedResult link result
 
 -- what was made for a command of all bytes of its source: its answer, which of `layout N` is such a one
 abbrev pub IsMadeOf : Command → List ℕ → Answer → Type 0

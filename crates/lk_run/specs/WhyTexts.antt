@@ -1,12 +1,11 @@
 -- What `why G F I` tells: the path by which a section is kept, unit by unit, or that it isn't reached.
-use Rattle.std.specs.Prelude.{ℕ, List, [], ◌∷◌, ◌++◌, Option, Some, None, codes}
+use Rattle.std.specs.Prelude.{ℕ, List, [], ◌∷◌, Option, Some, None, codes}
 use Rattle.std.specs.List.{flat_map}
 use Rattle.std.specs.Fmt.{decimal}
 use Rattle.lk_explain.specs.KeepPath.{IsShown}
-use Rattle.lk_link.specs.declared.fault.LinkFault.{LinkFault}
 use Rattle.lk_link.specs.declared.ids.FileId.{FileId}
 use Rattle.lk_link.specs.declared.link.LinkInput.{LinkInput}
-use Rattle.lk_link.specs.Texts.{joined, link_fault_text}
+use Rattle.lk_link.specs.Texts.{joined}
 use Rattle.lk_reach.specs.declared.units.Unit.{Unit as LinkUnit}
 use Rattle.lk_reach.specs.declared.units.Unit.TheVariants.{Sym, Sec}
 use Rattle.lk_reach.specs.Reach.{IsReached}
@@ -40,7 +39,3 @@ why_text file index way = joined (why_line file index ∷ way_lines way ∷ code
 unfoldable pub no_section_text : FileId → ℕ → List ℕ
 no_section_text file index = joined (
     codes "no such section: " ∷ decimal file.group ∷ codes " " ∷ decimal file.file ∷ codes " " ∷ decimal index ∷ codes "\n" ∷ [])
-
--- the fault of a link that isn't well formed
-abbrev pub link_fault_line : LinkFault → List ℕ
-link_fault_line fault = link_fault_text fault ++ codes "\n"

@@ -81,11 +81,8 @@ workers_for (Image workers) = workers
 
 -- whether a command reads the source
 abbrev pub reads : Command → Bool
-reads (Layout workers) = true
 reads (Gen seed size) = false
-reads (Why file index) = true
-reads Check = true
-reads (Image workers) = true
+reads _ = true
 
 -- what the program says where the words are no command
 abbrev pub usage : List ℕ

@@ -1,11 +1,12 @@
 //! The answer to `why G F I`: the path by which a section is kept that is shown, or that none leads to it.
 
-ghost use Rattle.std.specs.Prelude.{◌≡◌, ◌++◌, string_bytes, option_map, IfOk};
+ghost use Rattle.std.specs.Prelude.{◌≡◌, ◌++◌, codes, string_bytes, option_map, IfOk};
 ghost use Rattle.std.specs.List.{flat_map};
 ghost use Rattle.lk_input.specs.Reading.{reading_of};
+ghost use Rattle.lk_link.specs.Texts.{link_fault_text};
 ghost use Rattle.lk_link.specs.WellFormed.{IsWellFormed};
 ghost use Rattle.lk_run.specs.Run.{IsAnswerToReading, IsSectionAnswer, IsWhyAnswer, refused};
-ghost use Rattle.lk_run.specs.WhyTexts.{link_fault_line, no_section_text, unit_line, way_lines, why_line, why_text};
+ghost use Rattle.lk_run.specs.WhyTexts.{no_section_text, unit_line, way_lines, why_line, why_text};
 
 use crate::answer::{Answer, done, refused};
 use crate::inputs::{Reading, read_up};
@@ -99,7 +100,7 @@ fn answer_missing(alloc: Global, section: FileId, index: u32) -> Result<Answer, 
 
 /// The answer that tells the fault of a link.
 fn answer_fault(alloc: Global, fault: &LinkFault) -> Result<Answer, AllocError>
-    ensures { IfOk result (λ answer. answer ≡ refused (link_fault_line fault.now)) }
+    ensures { IfOk result (λ answer. answer ≡ refused (link_fault_text fault.now ++ codes "\n")) }
 {
     let text = format!(in alloc; "{fault}\n")?;
     Ok(refused(text))

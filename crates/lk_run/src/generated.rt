@@ -4,7 +4,8 @@ ghost use Rattle.std.specs.Prelude.{◌≤◌, IfOk};
 ghost use Rattle.lk_generator.specs.Generated.{generated_link};
 ghost use Rattle.lk_layout.specs.Defined.{Gives};
 ghost use Rattle.lk_layout.specs.Machines.{small64_machine};
-ghost use Rattle.lk_run.specs.Run.{IsGeneratedAnswer};
+ghost use Rattle.lk_report.specs.Summary.{summary};
+ghost use Rattle.lk_run.specs.Run.{TellsDefined, done};
 
 use crate::answer::{Answer, done, refused};
 use crate::fault_texts::fault_text;
@@ -23,7 +24,7 @@ fn sum_up(
     computed: &Result<Layout<'_>, LayoutError>,
 ) -> Result<Answer, AllocError>
     requires { Gives small64_machine (generated_link seed size) computed.now }
-    ensures { IfOk result (IsGeneratedAnswer seed size) }
+    ensures { IfOk result (TellsDefined (λ link layout. done (summary seed size layout)) (generated_link seed size)) }
 {
     match computed {
         Ok(layout) => Ok(done(summary_text(alloc, seed, size, layout)?)),
@@ -36,7 +37,7 @@ fn sum_up(
 pub(crate) fn answer_gen(alloc: Global, seed: u64, size: u32) -> Result<Answer, AllocError>
     requires some { 1 ≤ size }
     requires few { size ≤ 100000 }
-    ensures { IfOk result (IsGeneratedAnswer seed size) }
+    ensures { IfOk result (TellsDefined (λ link layout. done (summary seed size layout)) (generated_link seed size)) }
 {
     let link = generate_link(alloc, seed, size)?;
     let computed = compute_alone(alloc, &link, &Small64, &Small64Arch);

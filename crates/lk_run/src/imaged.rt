@@ -1,13 +1,12 @@
 //! The answer to `image N`: the bytes of the output file that the link's layout tells, or why there are none.
 
-ghost use Rattle.std.specs.Prelude.{◌≡◌, ◌≢◌, ◌≤◌, string_bytes, IfOk, Ok};
+ghost use Rattle.std.specs.Prelude.{◌≡◌, ◌≢◌, ◌≤◌, ◌++◌, codes, string_bytes, IfOk, Ok};
 ghost use Rattle.lk_image.specs.declared.error.ImageError.TheVariants as image_error;
-ghost use Rattle.lk_image.specs.Refusals.{image_refusal};
+ghost use Rattle.lk_image.specs.Texts.{error_text};
 ghost use Rattle.lk_input.specs.Reading.{reading_of};
 ghost use Rattle.lk_layout.specs.Defined.{Gives};
 ghost use Rattle.lk_layout.specs.Machines.{small64_machine};
-ghost use Rattle.lk_run.specs.ImageTexts.{no_image_line};
-ghost use Rattle.lk_run.specs.Run.{IsAnswerToReading, IsImageAnswer, imaged};
+ghost use Rattle.lk_run.specs.Run.{IsAnswerToReading, TellsDefined, image_told};
 
 use crate::answer::{Answer, done_with, refused};
 use crate::fault_texts::fault_text;
@@ -27,7 +26,7 @@ use std::thread::Threads;
 /// The line that tells why a layout has no image, for each reason but want of memory.
 fn no_image_line(alloc: Global, fault: &ImageError) -> Result<String, AllocError>
     requires { fault.now ≢ image_error.NoMemory }
-    ensures { IfOk result (λ text. string_bytes text ≡ no_image_line fault.now) }
+    ensures { IfOk result (λ text. string_bytes text ≡ error_text fault.now ++ codes "\n") }
 {
     format!(in alloc; "{fault}\n")
 }
@@ -35,7 +34,7 @@ fn no_image_line(alloc: Global, fault: &ImageError) -> Result<String, AllocError
 /// The answer to a layout: its image, or why it has none.
 fn answer_layout(alloc: Global, link: &LinkInput, layout: &Layout<'_>) -> Result<Answer, AllocError>
     requires { Gives small64_machine link.now (Ok layout.now) }
-    ensures { IfOk result (λ answer. answer ≡ imaged link.now layout.now (image_refusal link.now layout.now)) }
+    ensures { IfOk result (λ answer. answer ≡ image_told link.now layout.now) }
 {
     // A law, which does nothing.
     small64_machine_is_lawful();
@@ -53,7 +52,7 @@ fn answer_computed(
     computed: &Result<Layout<'_>, LayoutError>,
 ) -> Result<Answer, AllocError>
     requires { Gives small64_machine link.now computed.now }
-    ensures { IfOk result (IsImageAnswer link.now) }
+    ensures { IfOk result (TellsDefined image_told link.now) }
 {
     match computed {
         Ok(layout) => answer_layout(alloc, link, layout),
@@ -73,7 +72,7 @@ pub(crate) fn answer_image<R: Threads + Wait + Sync, G: Gate + Sync>(
     is_last: bool,
 ) -> Result<Answer, AllocError>
     requires gate { 2 ≤ workers → G.may_enter gate.now }
-    ensures { IfOk result (IsAnswerToReading IsImageAnswer (reading_of bytes.items)) }
+    ensures { IfOk result (IsAnswerToReading (TellsDefined image_told) (reading_of bytes.items)) }
 {
     match read_up_by_workers(rt, alloc, bytes, workers)? {
         Reading::Link(link) => {
@@ -90,7 +89,7 @@ pub(crate) fn answer_image<R: Threads + Wait + Sync, G: Gate + Sync>(
 
 /// The same on the caller's own thread.
 pub(crate) fn answer_image_alone(alloc: Global, bytes: Vec<u8>) -> Result<Answer, AllocError>
-    ensures { IfOk result (IsAnswerToReading IsImageAnswer (reading_of bytes.items)) }
+    ensures { IfOk result (IsAnswerToReading (TellsDefined image_told) (reading_of bytes.items)) }
 {
     match read_up(alloc, bytes)? {
         Reading::Link(link) => {

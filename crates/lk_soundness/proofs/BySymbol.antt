@@ -14,11 +14,13 @@ use Rattle.lk_link.specs.declared.file.FileKind.TheVariants as kind
 use Rattle.lk_link.specs.declared.file.InputFile.{InputFile}
 use Rattle.lk_link.specs.declared.flags.ValueFlags.{ValueFlags}
 use Rattle.lk_link.specs.declared.resolution.Resolution.{Resolution}
+use Rattle.lk_link.specs.declared.section.InputSection.{InputSection}
 use Rattle.lk_link.specs.declared.symbol.InputSymbol.{InputSymbol}
-use Rattle.lk_link.specs.FileKinds.{is_internal}
+use Rattle.lk_link.specs.FileKinds.{is_internal, is_object}
 use Rattle.lk_link.specs.Files.{file_in}
 use Rattle.lk_link.specs.Inputs.{NumberedFile, first_input, numbered_files}
 use Rattle.lk_link.specs.NumberedSymbols.{numbered_symbol, symbols_of}
+use Rattle.lk_link.specs.SymbolPlacements.{section_of}
 use Rattle.lk_link.specs.Symbols.{all_symbols, first_symbol, is_canonical, is_wanted, symbol_at, symbols_in}
 use Rattle.lk_link.specs.Flags.{has_resolution}
 use Rattle.lk_link.proofs.Elements.{at_index, flat_map_at, map_at, map_in}
@@ -28,6 +30,7 @@ use Rattle.lk_live.specs.Reach.{AreLive}
 use Rattle.lk_reach.specs.Units.{flags_from}
 use Rattle.lk_sizes.specs.Emitted.{told_marks}
 use Rattle.lk_tables.specs.Late.{late_flags}
+use Rattle.lk_tables.specs.SymbolEntries.{is_resolved}
 use Rattle.lk_reach.proofs.Numbered.{file_at}
 use Rattle.lk_tables.proofs.ShareSums.{sum_alike}
 use Rattle.lk_resolutions.specs.Entries.{EntrySetting, told_flags, with_entries}
@@ -40,8 +43,10 @@ use Rattle.lk_layout.specs.Defined.{layout_of}
 use Rattle.lk_layout.specs.Flags.{all_flags, marked_flags}
 use Rattle.lk_layout.specs.Made.{Made, made_content}
 use Rattle.lk_layout.specs.Redirects.{made_resolutions, placed_resolutions, value_at}
-use Rattle.lk_soundness.specs.Sound.{FlagsStand, ResolutionsStand, is_worth}
+use Rattle.lk_soundness.specs.Laws.{IsResolvedIn}
+use Rattle.lk_soundness.specs.Sound.{IsResolvedAt, told_edges}
 use Rattle.lk_soundness.proofs.Resolving.{made_at, made_entries, placed_is}
+use Rattle.lk_soundness.proofs.Stands.{FlagsStand, ResolutionsStand}
 
 -- ---- the symbol
 
@@ -146,7 +151,7 @@ resolutions_stand made flags changed = record {
       let is : IsOfFile made.link.groups s f x = of_its_file made.link.groups s f x named in
       let told = answered (made_at made) (made_entries made) f.file.kind (first_input made.link.groups f.id) (s, x) in
       same_there (resolution_at (made_resolutions made) s) (resolution_at (placed_resolutions made) s) (changed.rest s) ∙ ap is_some (placed_at_number made s f x is) ∙ told.0
-      ∙ ap (λ (fl : ValueFlags). is_wanted f.file.kind s x fl && is_worth made (layout_of made) f.file.kind x.at) (sym (flags s f x named));
+      ∙ ap (λ (fl : ValueFlags). is_wanted f.file.kind s x fl && (not (is_internal f.file.kind) || is_some (edge_value (told_edges made (layout_of made)) x.at))) (sym (flags s f x named));
   flags = λ s f x r named there.
       let is : IsOfFile made.link.groups s f x = of_its_file made.link.groups s f x named in
       let told = answered (made_at made) (made_entries made) f.file.kind (first_input made.link.groups f.id) (s, x) in
@@ -181,16 +186,44 @@ placed_worth places by kind.Prelude first value q h is = absurd (cc)
 placed_worth places by kind.SyntheticSymbols first value q h is = absurd (cc)
 placed_worth places by kind.LinkerScript first value q h is = absurd (cc)
 
+-- one of another file than the linker's own is told as it is placed
+pub told_at_number : OthersAreNoRedirects → (made : Made) → ChangesValuesAlone made.link.groups (placed_resolutions made) (made_resolutions made) → (s : ℕ) (f : NumberedFile) (x : InputSymbol)
+    → IsOfFile made.link.groups s f x → is_internal f.file.kind ≡ false
+    → resolution_at (made_resolutions made) s ≡ resolution_of (made_at made) (made_entries made) f.file.kind (first_input made.link.groups f.id) (s, x)
+told_at_number others made changed s f x is outside =
+    subst (λ (n : ℕ). resolution_at (made_resolutions made) n ≡ resolution_at (placed_resolutions made) n) (sym is.number)
+    (changed.others (first_symbol made.link.groups f.id + is.index)
+    (others made.link.groups f.id f.file is.index is.there (none_in f.file.kind outside) (slice_get_within f.file.symbols is.index x is.at)))
+    ∙ placed_at_number made s f x is
+
 -- one that is told is worth what it is placed at
 pub worth_by_place : OthersAreNoRedirects → (made : Made) → ChangesValuesAlone made.link.groups (placed_resolutions made) (made_resolutions made) → (s value : ℕ) (f : NumberedFile) (x : InputSymbol)
     → numbered_symbol made.link.groups s ≡ Some (f, x) → is_internal f.file.kind ≡ false → value_at (made_resolutions made) s ≡ Some value
     → value ≡ placed_value (made_at made) (first_input made.link.groups f.id) s x.at
 worth_by_place others made changed s value f x named outside told =
     let is : IsOfFile made.link.groups s f x = of_its_file made.link.groups s f x named in
-    let first : ℕ = first_input made.link.groups f.id in
-    let still : resolution_at (made_resolutions made) s ≡ resolution_at (placed_resolutions made) s
-    = subst (λ (n : ℕ). resolution_at (made_resolutions made) n ≡ resolution_at (placed_resolutions made) n) (sym is.number)
-    (changed.others (first_symbol made.link.groups f.id + is.index)
-    (others made.link.groups f.id f.file is.index is.there (none_in f.file.kind outside) (slice_get_within f.file.symbols is.index x is.at))) in
-    placed_worth (made_at made) (made_entries made) f.file.kind first value (s, x) outside
-    (sym (ap (option_map (λ (r : Resolution). r.raw_value)) (still ∙ placed_at_number made s f x is)) ∙ told)
+    placed_worth (made_at made) (made_entries made) f.file.kind (first_input made.link.groups f.id) value (s, x) outside
+    (sym (ap (option_map (λ (r : Resolution). r.raw_value)) (told_at_number others made changed s f x is outside)) ∙ told)
+
+-- ---- in an object
+
+-- an object isn't the linker's own
+pub object_outside : (k : FileKind) → is_object k ≡ true → is_internal k ≡ false
+object_outside kind.Object h = refl
+object_outside kind.Dynamic h = refl
+object_outside kind.NotLoaded h = refl
+object_outside kind.Prelude h = absurd (cc)
+object_outside kind.SyntheticSymbols h = absurd (cc)
+object_outside kind.LinkerScript h = absurd (cc)
+
+-- one that is placed in a section, in its file
+abbrev pub resolved_in : (made : Made) (s i offset : ℕ) (f : NumberedFile) (x : InputSymbol) (section : InputSection) → IsResolvedAt made s i offset f x section → IsOfFile made.link.groups s f x
+    → IsResolvedIn made.link made.live f.id f.file i
+resolved_in made s i offset f x section is of = record {
+  index = of.index;
+  symbol = x;
+  object = is.object;
+  there = of.at;
+  at = ap section_of is.placed;
+  resolved = subst (λ (n : ℕ). is_resolved made.live f.file.kind (n, x) ≡ true) of.number is.resolved;
+}

@@ -63,18 +63,23 @@ use Rattle.lk_layout.specs.LayoutRecord.{LayoutRecord}
 use Rattle.lk_layout.specs.Machines.{Machine}
 use Rattle.lk_layout.specs.Made.{Made, made_deletions, made_filling, relaxing_for}
 use Rattle.lk_layout.specs.Redirects.{made_resolutions, placed_resolutions}
-use Rattle.lk_soundness.specs.Sound.{DeletedCandidatesAreNear, FlagsStand, HasPosition, told_place}
+use Rattle.lk_soundness.specs.Sound.{StandsAt}
 use Rattle.lk_soundness.proofs.BySymbol.{IsOfFile, of_its_file, worth_by_place}
 use Rattle.lk_layout.proofs.LaidOut.{IsLaidOut, made_by}
 use Rattle.lk_soundness.proofs.OnlyScanned.{IsScanned, all_three, first_scanned, only_scanned_lose, pass_scanned}
 use Rattle.lk_soundness.proofs.Resolving.{made_at}
+use Rattle.lk_soundness.proofs.Stands.{DeletedCandidatesAreNear, FlagsStand}
 use Rattle.lk_soundness.proofs.TargetPlaces.{IsPositioned, candidates_rise, marked_regular, position_is, regular_is, site_is}
 
 -- ---- what can be near
 
--- a placement has an address for relaxation, by what is live
+-- a placement in a file has an address for relaxation, by what is live: it is absolute, or stands in a section that is live, neither debug data nor
+-- merged, and not put in order by its name
 abbrev HasPlace : LinkInput → Live → FileId → SymbolPlacement → Type 0
-HasPlace link live id p = HasPosition link live.marks id p
+HasPlace link live id (at.Section i offset) = (x : Input) × (slice_get (all_inputs link.groups) (input_number link.groups id i) ≡ Some x)
+    × (has_position (is_marked live.marks (input_number link.groups id i)) x.section ≡ true)
+HasPlace link live id (at.Absolute n) = Unit {0}
+HasPlace link live id _ = ⊥
 
 -- what stands for a symbol: nothing may take its place, and it has one
 record HasAim (link : LinkInput) (live : Live) (s : ℕ) : Type 0 where
@@ -257,7 +262,7 @@ aims_behind read rel (suc n) k x a z good there (inr leads) h = aims_behind read
 -- where a placement stands for relaxation, at the end, is where it is told, and what its symbol is worth
 record IsAt (made : Made) (d : ℕ) (f : NumberedFile) (x : InputSymbol) : Type 0 where
   place : ℕ
-  told : told_place made (layout_of made) f.id x.at ≡ Some place
+  told : StandsAt made (layout_of made) f.id x.at place
   aimed : target (made_standing made) d ≡ Some place
   worth : placed_value (made_at made) (first_input made.link.groups f.id) d x.at ≡ place
 
@@ -304,7 +309,7 @@ at_end shrunk refused mass machine link layout laid d f x named own (at.Section 
     ∙ ap (λ (m : ℕ). Some (m + output_offset groups laid.stage.deletions f.id i offset)) (sym (table_at filling starts n input at_n lives.0)) in
     record {
       place = place;
-      told = ap (told_place made (layout_of made) f.id) at_p ∙ ap (λ b. if b then Some place else None) lives.0;
+      told = subst (λ (q : SymbolPlacement). StandsAt made (layout_of made) f.id q place) (sym at_p) (held.0, held.1, held.2, refl);
       aimed = target_is (relaxing_for machine link laid.live) laid.stage d f x named
           ∙ ap (λ b. if b then None else first_some (absolute_value x.at) (option_and_then (λ (q : SymbolPosition). address_in laid.stage.records q.part q.offset)
           (symbol_position groups laid.stage.deletions (section_positions filling) f.id x.at))) own
@@ -320,7 +325,7 @@ at_end shrunk refused mass machine link layout laid d f x named own (at.Absolute
     let filling : Filling = made_filling made in
     record {
       place = n;
-      told = ap (told_place made (layout_of made) f.id) at_p;
+      told = subst (λ (q : SymbolPlacement). StandsAt made (layout_of made) f.id q n) (sym at_p) refl;
       aimed = target_is (relaxing_for machine link laid.live) laid.stage d f x named
           ∙ ap (λ b. if b then None else first_some (absolute_value x.at) (option_and_then (λ (q : SymbolPosition). address_in laid.stage.records q.part q.offset)
           (symbol_position groups laid.stage.deletions (section_positions filling) f.id x.at))) own
@@ -414,7 +419,6 @@ candidates_near others read shrunk near refused mass machine link layout laid ch
       named = aim.named;
       own = ap (λ (f : ValueFlags). has_flag flag.INTERPOSABLE.0 f.0)
           (flags aim.definition aim.file aim.symbol aim.named ∙ not_late link _ aim.file.file.kind aim.definition aim.symbol (flags_at laid.live.flags aim.definition) outside) ∙ aim.own;
-      position = aim.place;
       place = stands.place;
       at = stands.told;
       near = near (made_standing made) k j stands.place (slice_index table k + moved) x c laid.near there here gone (ap (option_and_then (target (made_standing made))) aim.stands_for ∙ stands.aimed) from;

@@ -32,7 +32,8 @@ use Rattle.lk_resolutions.specs.Starts.{starts_of}
 use Rattle.lk_resolutions.specs.Entries.{EntrySetting}
 use Rattle.lk_resolutions.specs.Resolutions.{Places, placed_value, resolution_of}
 use Rattle.lk_resolution_list.specs.Lists.{resolution_at}
-use Rattle.lk_soundness.specs.Sound.{CommonsStand, part_record}
+use Rattle.lk_soundness.specs.Sound.{part_record}
+use Rattle.lk_soundness.proofs.Stands.{CommonsStand}
 use Rattle.lk_layout.proofs.LaidOut.{IsLaidOut, made_by}
 use Rattle.lk_soundness.proofs.PartStarts.{part_starts}
 use Rattle.lk_sizes.proofs.Placed.{size-le}

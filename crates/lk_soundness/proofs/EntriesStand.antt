@@ -1,9 +1,8 @@
 -- The entries that a resolution tells are the symbol's own.
-use Rattle.std.proofs.Common.{◌≡◌, ℕ, zero, suc, ◌<◌, ◌≤◌, ◌==◌, Bool, true, false, if◌then◌else◌, List, [], ◌∷◌, cond, length, map, take, Option, Some, None, refl, sym, ap, subst, ◌∙◌, inl, inr, arith}
+use Rattle.std.proofs.Common.{◌≡◌, ℕ, zero, suc, ◌<◌, ◌≤◌, ◌==◌, Bool, true, false, if◌then◌else◌, List, [], ◌∷◌, cond, length, map, take, Option, Some, None, refl, sym, ap, ◌∙◌, inl, inr, arith}
 use Rattle.std.specs.Prelude.{◌&&◌, bit_and, bit_or, not, option_map, slice_get, slice_index}
 use Rattle.std.specs.Int.Bits.{and_zero_l}
 use Rattle.std.specs.List.{count_by, flat_map, slice_index_or}
-use Rattle.std.specs.Option.{ForSome}
 use Rattle.std.proofs.Math.ListN as lists
 use Rattle.std.proofs.lemmas.Bool.{cases_lt, eq-eqb}
 use Rattle.std.proofs.lemmas.Bool.Decides.{eqb_tells}
@@ -54,7 +53,8 @@ use Rattle.lk_sizes.specs.PartOwners.{owners_of, tables_of}
 use Rattle.lk_layout.specs.LayoutRecord.{LayoutRecord}
 use Rattle.lk_layout.specs.Made.{Made, made_content, made_filling}
 use Rattle.lk_layout.specs.Redirects.{placed_resolutions}
-use Rattle.lk_soundness.specs.Sound.{AreOwnEntries, EntriesStand, IsEntryAt, TablesStandAlone, part_record}
+use Rattle.lk_soundness.specs.Sound.{AreOwnEntries, IsEntryAt, part_record}
+use Rattle.lk_soundness.proofs.Stands.{EntriesStand, TablesStandAlone}
 use Rattle.lk_layout.proofs.LaidOut.{IsLaidOut, made_by}
 use Rattle.lk_soundness.proofs.Resolving.{as_many, made_at, made_entries}
 use Rattle.lk_resolutions.specs.Entries.{EntrySetting, entry_in, got_table, plt_table, told_flags, with_entries}
@@ -293,17 +293,11 @@ told_index : (s k bytes : ℕ) (entries : List TableEntry) (o : Option ℕ) → 
 told_index s k bytes entries (Some j) some none h = ap (λ (n : ℕ). Some n) (one_last s j k bytes entries (some j refl) h)
 told_index s k bytes entries None some none h = absurd (none refl k h.there)
 
-for_named : (named : Option ℕ) (P : ℕ → Type 0) (p : ℕ) → named ≡ Some p → P p → ForSome named P
-for_named named P p is h = λ x e.
-    let both : Some p ≡ Some x = sym is ∙ e in
-    let same : p ≡ x = cc in
-    subst P same h
-
 -- ---- one table of a symbol
 
 -- what a resolution tells of a table, with the entries that the plan's part has: its symbol's own, and all of it
 record TellsTable (made : Made) (layout : LayoutRecord) (named told : Option ℕ) (s : ℕ) : Type 0 where
-  own : (address : ℕ) → told ≡ Some address → ForSome named (λ p. IsEntryAt made layout p s address)
+  own : (address : ℕ) → told ≡ Some address → (p : ℕ) × (named ≡ Some p) × IsEntryAt made layout p s address
   all : (p address : ℕ) → named ≡ Some p → IsEntryAt made layout p s address → told ≡ Some address
 
 -- the table with this place among all stands where the plan's part does, and the symbol has so many entries there
@@ -324,8 +318,7 @@ with_one made layout k named table s bytes is one own =
     record {
       own = λ address h.
           let entry = told_entry named starts table s bytes address h in
-          for_named named (λ p. IsEntryAt made layout p s address) entry.0 entry.1
-          (entry_stands made layout starts k entry.0 s bytes address table is.good is.alone (in_part entry.0 entry.1) is.there (is.start entry.0) entry.2 own entry.3);
+          (entry.0, entry.1, entry_stands made layout starts k entry.0 s bytes address table is.good is.alone (in_part entry.0 entry.1) is.there (is.start entry.0) entry.2 own entry.3);
       all = λ p address at entry. ap (λ (o : Option ℕ). entry_in o starts table s bytes) at
           ∙ entry_told made layout starts k p s bytes address table is.good is.alone (in_part p at) is.there (is.start p) one own entry;
     }
@@ -420,13 +413,19 @@ own_entries_of machine link layout laid s r lawful alone has =
     let tells = told_entries made layout s has.file has.symbol lawful (got, plt) has.there has.wanted in
     let indexes = indexes_name_entries machine.sizes link laid.live by.told by.told (active_segments (made_content made)) s in
     record {
-      got = λ address h. tells.got.own address (ap (λ (x : Resolution). x.got) (sym has.is) ∙ h);
-      plt = λ address h. tells.plt.own address (ap (λ (x : Resolution). x.plt) (sym has.is) ∙ h);
-      dynamic = λ k h. indexes.0 k (ap (λ (x : Resolution). x.dynamic) (sym has.is) ∙ h);
-      got_told = λ p address named is. ap (λ (x : Resolution). x.got) has.is ∙ tells.got.all p address named is;
-      plt_told = λ p address named is. ap (λ (x : Resolution). x.plt) has.is ∙ tells.plt.all p address named is;
-      dynamic_told = λ k is. ap (λ (x : Resolution). x.dynamic) has.is
-          ∙ told_index s k machine.sizes.symbol_entry (tables_of (made_content made)).dynsym (dynamic_index (dynamic_table link laid.live by.told) s) indexes.0 indexes.1 is;
+      got = λ address. (
+        λ h. tells.got.own address (ap (λ (x : Resolution). x.got) (sym has.is) ∙ h),
+        λ h. ap (λ (x : Resolution). x.got) has.is ∙ tells.got.all h.0 address h.1 h.2,
+      );
+      plt = λ address. (
+        λ h. tells.plt.own address (ap (λ (x : Resolution). x.plt) (sym has.is) ∙ h),
+        λ h. ap (λ (x : Resolution). x.plt) has.is ∙ tells.plt.all h.0 address h.1 h.2,
+      );
+      dynamic = λ k. (
+        λ h. indexes.0 k (ap (λ (x : Resolution). x.dynamic) (sym has.is) ∙ h),
+        λ h. ap (λ (x : Resolution). x.dynamic) has.is
+            ∙ told_index s k machine.sizes.symbol_entry (tables_of (made_content made)).dynsym (dynamic_index (dynamic_table link laid.live by.told) s) indexes.0 indexes.1 h,
+      );
     }
 
 -- resolutions that differ in their values alone tell the same of entries
@@ -436,12 +435,9 @@ alike made layout s a b same own =
     let plt : a.plt ≡ b.plt = ap (λ (r : Resolution). r.plt) same in
     let dynamic : a.dynamic ≡ b.dynamic = ap (λ (r : Resolution). r.dynamic) same in
     record {
-      got = λ address h. own.got address (sym got ∙ h);
-      plt = λ address h. own.plt address (sym plt ∙ h);
-      dynamic = λ k h. own.dynamic k (sym dynamic ∙ h);
-      got_told = λ p address named is. got ∙ own.got_told p address named is;
-      plt_told = λ p address named is. plt ∙ own.plt_told p address named is;
-      dynamic_told = λ k is. dynamic ∙ own.dynamic_told k is;
+      got = λ address. (λ h. (own.got address).0 (sym got ∙ h), λ h. got ∙ (own.got address).1 h);
+      plt = λ address. (λ h. (own.plt address).0 (sym plt ∙ h), λ h. plt ∙ (own.plt address).1 h);
+      dynamic = λ k. (λ h. (own.dynamic k).0 (sym dynamic ∙ h), λ h. dynamic ∙ (own.dynamic k).1 h);
     }
 
 -- one of them is there where the other is

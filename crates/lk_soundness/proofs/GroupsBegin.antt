@@ -46,7 +46,7 @@ use Rattle.lk_layout.specs.Defined.{layout_of}
 use Rattle.lk_soundness.specs.GroupPlaces.{GroupsBegin, StartsBehind, entries_before, entries_reach}
 use Rattle.lk_group_starts.specs.GroupStarts.{byte_starts, capped, entries_in, files_before, first_bytes, part_for, starts_in, taken_before, taken_in}
 use Rattle.lk_layout.specs.Made.{Made, made_content, made_filling}
-use Rattle.lk_soundness.specs.Sound.{TablesStandAlone}
+use Rattle.lk_soundness.proofs.Stands.{TablesStandAlone}
 use Rattle.lk_resolutions.proofs.EntriesTaken.{own_entries}
 use Rattle.lk_group_starts.proofs.Starting.{total}
 
@@ -328,7 +328,7 @@ groups_begin made starts good alone fit below =
           behind_them is (slice_index (layout_of made).group_starts.strtab g) entry_bytes (flat_map each (take n files)) (flat_map each (drop n files)) parts
           (start_at sizes link live told table.Names (λ marks. name_entries link live marks) good (names_bring sizes link live told) p g named within
           ∙ no_more n each files (before_fits is (flat_map each (take n files)) (flat_map each (drop n files)) parts));
-      dynamic_names = λ g p within loaded named.
+      dynamic_names = λ loaded g p within named.
           let n : ℕ = files_before link.groups g in
           let each : NumberedFile → List TableEntry = file_dynamic_names link live told in
           let exports : List TableEntry = flat_map (file_export_names link live) files in

@@ -28,7 +28,8 @@ use Rattle.lk_sizes.specs.Owners.{ImageOwner, Filling}
 use Rattle.lk_sizes.proofs.ImageLemmas.{its_section}
 use Rattle.lk_layout.specs.LayoutRecord.{LayoutRecord}
 use Rattle.lk_resolutions.specs.Starts.{starts_of}
-use Rattle.lk_soundness.specs.Sound.{ImagesStand, IsImageAt, part_record}
+use Rattle.lk_soundness.specs.Sound.{IsImageAt, part_record}
+use Rattle.lk_soundness.proofs.Stands.{ImagesStand}
 use Rattle.lk_resolutions.proofs.Imaging.{comes_from, has_part, inputs_at, len_at, stands_at}
 use Rattle.lk_layout.proofs.LaidOut.{IsLaidOut, made_by}
 

@@ -19,6 +19,7 @@ mod SinglesBehind
 mod SortedLast
 mod SortedTold
 mod Soundness
+mod Stands
 mod TablesAlone
 mod TargetPlaces
 mod ThunkAddresses

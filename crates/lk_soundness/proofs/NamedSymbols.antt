@@ -1,5 +1,5 @@
 -- A named symbol in a merged section has the address at which the image shows what stands there.
-use Rattle.std.proofs.Common.{◌≡◌, ℕ, ◌+◌, ◌<◌, ◌≤◌, Bool, true, false, cond, if◌then◌else◌, List, [], ◌∷◌, length, ltb, not, Option, Some, None, Result, Ok, Err, ap, ◌∙◌, inl, inr, arith}
+use Rattle.std.proofs.Common.{◌≡◌, ℕ, ◌+◌, ◌<◌, ◌≤◌, Bool, true, false, cond, if◌then◌else◌, List, [], ◌∷◌, length, ltb, not, Option, Some, None, Result, Ok, Err, sym, ap, subst, ◌∙◌, inl, inr, arith}
 use Rattle.std.specs.Prelude.{◌&&◌, ◌==◌, option_and_then, option_map, pos, unwrap_or}
 use Rattle.std.specs.List.{enumerate_from, flat_map, slice_get}
 use Rattle.std.specs.Option.{option_map_or}
@@ -20,6 +20,7 @@ use Rattle.lk_link.specs.Symbols.{file_number, first_symbol, symbol_at}
 use Rattle.lk_deltas.specs.LinkDeletions.{output_offset}
 use Rattle.lk_layout.specs.Made.{made_deletions, made_filling}
 use Rattle.lk_layout.specs.Machines.{Machine}
+use Rattle.lk_layout.specs.Redirects.{value_at}
 use Rattle.lk_link.proofs.Elements.{append_left, flat_map_in}
 use Rattle.lk_link.proofs.InputLemmas.{file_stands, inputs_follow, numbered_get}
 use Rattle.lk_link.proofs.SymbolLemmas.{symbols_follow}
@@ -32,6 +33,7 @@ use Rattle.lk_merge.specs.LinkInputs.{link_inputs, merge_input, merge_inputs}
 use Rattle.lk_merge.specs.OffsetsOutside.{is_symbol_outside, stands_outside}
 use Rattle.lk_merge.specs.OutputAddresses.{MergePlace, merge_place, merged_address, offset_place, output_of, past_end, place_address, placed_in, plus_addend, symbol_place}
 use Rattle.lk_merge.specs.declared.output_address.OffsetPastEnd.{OffsetPastEnd}
+use Rattle.lk_merge.specs.MergedReferences.{IsShownAt}
 use Rattle.lk_merge.proofs.AddressLemmas.{starts_at}
 use Rattle.lk_merge.proofs.MergedReferences.{merged_references_show, output_there, symbol_place_is}
 use Rattle.lk_merge.proofs.SymbolPlaces.{output_at, symbol_numbered}
@@ -46,11 +48,13 @@ use Rattle.lk_resolutions.specs.Starts.{starts_of}
 use Rattle.lk_resolutions.specs.Outside.{merge_offsets, relocations_outside, symbol_outside, symbols_outside}
 use Rattle.lk_resolutions.specs.Entries.{EntrySetting}
 use Rattle.lk_resolutions.specs.Resolutions.{Places, found_or_0, images_at, placed_value}
-use Rattle.lk_soundness.specs.Sound.{NamedSymbolsShow}
+use Rattle.lk_soundness.specs.Laws.{IsResolvedIn}
 use Rattle.lk_layout.proofs.LaidOut.{IsLaidOut, made_by}
 use Rattle.lk_resolutions.proofs.Placing.{unmerged}
 use Rattle.lk_soundness.proofs.Resolved.{in_file}
+use Rattle.lk_soundness.proofs.BySymbol.{IsOfFile, of_its_file, resolved_in}
 use Rattle.lk_soundness.proofs.Resolving.{ObjectsAreTold, made_at, made_entries, object_value}
+use Rattle.lk_soundness.proofs.Stands.{NamedSymbolsShow}
 
 -- ---- what the symbol names
 
@@ -125,9 +129,13 @@ not_live link live k x are there merged =
     let no : is_merge x.section.slot ≡ false = unmerged x.section.slot lives.slot in
     absurd (cc))
 
-pub named_symbols_show : (machine : Machine) (link : LinkInput) (layout : LayoutRecord) (laid : IsLaidOut machine link layout) → ObjectsAreTold (made_by laid) layout
-    → NamedSymbolsShow (made_by laid) layout
-named_symbols_show machine link layout laid objects id file i offset section there r placed at_i merged named =
+-- the image shows it at its value, by its place in its file
+shown_in_file : (machine : Machine) (link : LinkInput) (layout : LayoutRecord) (laid : IsLaidOut machine link layout) → ObjectsAreTold (made_by laid) layout
+    → (id : FileId) (file : InputFile) (i offset : ℕ) (section : InputSection) → file_in link.groups id ≡ Some file → (r : IsResolvedIn link laid.live id file i)
+    → r.symbol.at ≡ at.Section i offset → slice_get file.sections i ≡ Some section → is_merge section.slot ≡ true → (length r.symbol.name == 0) ≡ false
+    → (address : ℕ) × (value_at layout.symbol_resolutions (first_symbol link.groups id + r.index) ≡ Some address)
+    × IsShownAt link (image_start layout.merged_string_start_addresses) (place_of link id i offset section false) (pos 0) address
+shown_in_file machine link layout laid objects id file i offset section there r placed at_i merged named =
     let groups = link.groups in
     let live : Live = laid.live in
     let starts : List ℕ = starts_of laid.stage.records in
@@ -169,3 +177,10 @@ named_symbols_show machine link layout laid objects id file i offset section the
           ∙ ap (λ (n : ℕ). Some n) valued,
       merged_references_show.shown link told number place (pos 0) address laid.good laid.merged is referred,
     )
+
+pub named_symbols_show : (machine : Machine) (link : LinkInput) (layout : LayoutRecord) (laid : IsLaidOut machine link layout) → ObjectsAreTold (made_by laid) layout
+    → NamedSymbolsShow (made_by laid) layout
+named_symbols_show machine link layout laid objects s i offset f x section is merged named =
+    let of : IsOfFile link.groups s f x = of_its_file link.groups s f x is.named in
+    let found = shown_in_file machine link layout laid objects f.id f.file i offset section of.there (resolved_in (made_by laid) s i offset f x section is of) is.placed is.there merged named in
+    (found.0, subst (λ (n : ℕ). value_at layout.symbol_resolutions n ≡ Some found.0) (sym of.number) found.1, found.2)

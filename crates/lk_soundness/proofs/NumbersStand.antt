@@ -21,7 +21,8 @@ use Rattle.lk_resolution_list.specs.StoreLaws.{ChangesValuesAlone}
 use Rattle.lk_layout.specs.Defined.{layout_of}
 use Rattle.lk_layout.specs.Made.{Made, made_deletions, made_filling}
 use Rattle.lk_layout.specs.Redirects.{made_resolutions, placed_resolutions}
-use Rattle.lk_soundness.specs.Sound.{NumbersStand, number_of}
+use Rattle.lk_soundness.specs.Sound.{number_of}
+use Rattle.lk_soundness.proofs.Stands.{NumbersStand}
 use Rattle.lk_soundness.proofs.BySymbol.{IsOfFile, of_its_file, worth_by_place}
 use Rattle.lk_soundness.proofs.NamedSymbols.{Stands, names, not_live, place_of}
 use Rattle.lk_soundness.proofs.Resolving.{made_at}

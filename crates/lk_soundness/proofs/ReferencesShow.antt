@@ -29,7 +29,8 @@ use Rattle.lk_layout.specs.LayoutRecord.{LayoutRecord}
 use Rattle.lk_resolutions.specs.declared.outside.MergeOffsetPlace.{MergeOffsetPlace}
 use Rattle.lk_resolutions.specs.declared.outside.MergeOffsetPlace.TheVariants.{OfRelocation}
 use Rattle.lk_resolutions.specs.Outside.{merge_offsets, relocation_outside, relocations_outside, section_outside, symbols_outside}
-use Rattle.lk_soundness.specs.Sound.{IsReference, ReferencesShow}
+use Rattle.lk_soundness.specs.Sound.{IsReference}
+use Rattle.lk_soundness.proofs.Stands.{ReferencesShow}
 use Rattle.lk_layout.proofs.LaidOut.{IsLaidOut, made_by}
 use Rattle.lk_soundness.proofs.NamedSymbols.{has_none, past_tells}
 

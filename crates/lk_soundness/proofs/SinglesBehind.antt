@@ -28,7 +28,7 @@ use Rattle.lk_sizes.specs.Owners.{Content}
 use Rattle.lk_tables.specs.HeaderParts.{event_sections}
 use Rattle.lk_layout.specs.LayoutRecord.{LayoutRecord}
 use Rattle.lk_layout.specs.Machines.{Machine}
-use Rattle.lk_soundness.specs.Sound.{SinglesStandBehind}
+use Rattle.lk_soundness.proofs.Stands.{SinglesStandBehind}
 use Rattle.lk_resolutions.specs.OutputContent.{output_content}
 use Rattle.lk_layout.proofs.LaidOut.{IsLaidOut, made_by}
 

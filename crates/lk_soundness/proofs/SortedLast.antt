@@ -23,7 +23,28 @@ use Rattle.lk_sizes.specs.PartOwners.{owners_of, tables_of}
 use Rattle.lk_sizes.specs.Sorted.{before, name_cmp, sorted_inputs}
 use Rattle.lk_sizes.proofs.SortedOnes.{is_less, name_total, sorted_at, sorted_stand_by_name}
 use Rattle.lk_layout.specs.Made.{Made, made_filling}
-use Rattle.lk_soundness.specs.Sound.{SortedStandLast, is_sorted_owner, is_table_owner}
+use Rattle.lk_soundness.specs.Sound.{is_last}
+
+-- ---- owners
+
+-- an owner is a sorted section
+abbrev is_sorted_owner : Owner → Bool
+is_sorted_owner (SectionOwner x size) = x.section.sorted
+is_sorted_owner _ = false
+
+-- an owner is an entry of a table
+abbrev is_table_owner : Owner → Bool
+is_table_owner (EntryOwner e) = true
+is_table_owner _ = false
+
+-- one that isn't last is neither
+not_sorted : (o : Owner) → is_last o ≡ false → is_sorted_owner o ≡ false
+not_sorted (SectionOwner x size) h = h
+not_sorted _ h = refl
+
+not_told : (o : Owner) → is_last o ≡ false → is_table_owner o ≡ false
+not_told (EntryOwner e) h = h
+not_told _ h = refl
 
 -- ---- what isn't sorted
 
@@ -285,8 +306,16 @@ by_stands filling p j k x y n m (Sorted a at_j here) (Told table none) sorted to
 
 -- ---- all
 
+-- sorted sections stand behind all others but entries of tables, and among themselves by name
+pub record SortedStandLast (made : Made) : Type 0 where
+  pub behind : (p j k n : ℕ) (o : Owner) (x : Input) → slice_get (owners_of (made_filling made) p) j ≡ Some o
+      → slice_get (owners_of (made_filling made) p) k ≡ Some (SectionOwner x n) → is_last o ≡ false → x.section.sorted ≡ true → j < k
+  pub among : (p j k : ℕ) (x y : Input) (n m : ℕ) → slice_get (owners_of (made_filling made) p) j ≡ Some (SectionOwner x n)
+      → slice_get (owners_of (made_filling made) p) k ≡ Some (SectionOwner y m) → x.section.sorted ≡ true → y.section.sorted ≡ true → before x y ≡ true → j < k
+
 pub sorted_stand_last : (made : Made) → SortedStandLast made
 sorted_stand_last made = record {
-  behind = λ p j k o q at_j at_k. behind_by (made_filling made) p j k o q (stands (made_filling made) p j o at_j) (stands (made_filling made) p k q at_k);
-  by_name = λ p j k x y n m at_j at_k. by_stands (made_filling made) p j k x y n m (stands (made_filling made) p j (SectionOwner x n) at_j) (stands (made_filling made) p k (SectionOwner y m) at_k);
+  behind = λ p j k n o x at_j at_k last sorted.
+      behind_by (made_filling made) p j k o (SectionOwner x n) (stands (made_filling made) p j o at_j) (stands (made_filling made) p k (SectionOwner x n) at_k) (not_sorted o last) (not_told o last) sorted;
+  among = λ p j k x y n m at_j at_k. by_stands (made_filling made) p j k x y n m (stands (made_filling made) p j (SectionOwner x n) at_j) (stands (made_filling made) p k (SectionOwner y m) at_k);
 }

@@ -7,7 +7,7 @@ use Rattle.lk_sizes.specs.Sorted.{sorted_inputs}
 use Rattle.lk_sizes.proofs.SortedOnes.{sorted_at, sorted_stand_by_name}
 use Rattle.lk_layout.specs.Defined.{layout_of}
 use Rattle.lk_layout.specs.Made.{Made, made_filling}
-use Rattle.lk_soundness.specs.Sound.{SortedAreTold}
+use Rattle.lk_soundness.proofs.Stands.{SortedAreTold}
 
 pub sorted_are_told : LiveSectionsAreOwners → (made : Made) → SortedAreTold made (layout_of made)
 sorted_are_told owners made = record {

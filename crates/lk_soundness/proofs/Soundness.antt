@@ -44,7 +44,7 @@ use Rattle.lk_layout.specs.Layouts.{told_live}
 use Rattle.lk_layout.specs.Laws.{LaidOutLinksAreWellFormed}
 use Rattle.lk_soundness.specs.Laws.{DefinedLayoutsAreSound, LaidOutMemoryIsDisjoint, LaidOutSectionsAreApart}
 use Rattle.lk_layout.specs.Redirects.{made_resolutions, placed_resolutions, placed_with}
-use Rattle.lk_soundness.specs.Sound.{DeletedCandidatesAreNear, EdgesStand, FlagsStand, NumbersStand, ResolutionsStand, SectionsShrink, SortedAreTold, OwnersAreApart, RedirectsStand, IsInSection, IsSharedOut, IsSound, IsTold, LiveSectionsAreAligned, LiveSectionsAreApart, MemoryIsCongruent, part_record}
+use Rattle.lk_soundness.specs.Sound.{DeletionsStand, IsApartInMemory, IsInSection, IsSharedOut, IsSound, IsTold, SortedStand, part_record}
 use Rattle.lk_soundness.proofs.BySymbol.{flags_stand, resolutions_stand}
 use Rattle.lk_soundness.proofs.CandidatesNear.{candidates_near}
 use Rattle.lk_soundness.proofs.CommonsStand.{commons_stand}
@@ -65,6 +65,7 @@ use Rattle.lk_soundness.proofs.SinglesBehind.{singles_stand}
 use Rattle.lk_soundness.proofs.SortedLast.{sorted_stand_last}
 use Rattle.lk_soundness.proofs.SortedTold.{sorted_are_told}
 use Rattle.lk_soundness.proofs.ReferencesShow.{references_show}
+use Rattle.lk_soundness.proofs.Stands.{EdgesStand, FlagsStand, LiveSectionsAreAligned, LiveSectionsAreApart, MemoryIsCongruent, NumbersStand, OwnersAreApart, RedirectsStand, ResolutionsStand, SortedAreTold, ValuesStand}
 use Rattle.lk_soundness.proofs.OnlyScanned.{only_scanned_lose}
 use Rattle.lk_soundness.proofs.ToldSizes.{told_live_are}
 use Rattle.lk_link.proofs.GoodPartFields.{good_part_fields}
@@ -73,7 +74,7 @@ use Rattle.lk_resolutions.proofs.Placing.{starts_count}
 use Rattle.lk_soundness.proofs.Resolved.{resolved_sections_are_live}
 use Rattle.lk_soundness.proofs.Resolving.{objects_told}
 use Rattle.lk_layout.proofs.Settings.{part_size_at, ready, takes}
-use Rattle.lk_soundness.proofs.Valued.{values_are_in_live_sections}
+use Rattle.lk_soundness.proofs.Valued.{values_stand}
 use Rattle.lk_link.proofs.Elements.{contains_at, map_in}
 use Rattle.lk_resolutions.specs.OutputContent.{output_content}
 use Rattle.lk_resolution_list.specs.StoreLaws.{ChangesValuesAlone, RedirectsChangeValuesAlone}
@@ -92,9 +93,6 @@ shown_at machine link layout laid = ap (told_live link) laid.same ∙ told_live_
 shown : (machine : Machine) (link : LinkInput) (layout : LayoutRecord) (laid : IsLaidOut machine link layout) → told_live link layout ≡ live_sections (made_filling (made_by laid)) (starts_of layout.section_part_layouts)
 shown machine link layout laid =
     shown_at machine link layout laid ∙ ap (λ (rs : List Record). live_sections (made_filling (made_by laid)) (starts_of rs)) (sym (parts_are machine link layout laid))
-
-deletions_are : (machine : Machine) (link : LinkInput) (layout : LayoutRecord) (laid : IsLaidOut machine link layout) → layout.section_deletions ≡ laid.stage.deletions
-deletions_are machine link layout laid = ap (λ (l : LayoutRecord). l.section_deletions) laid.same
 
 -- redirects change nothing but their own values of what is placed
 changed : RedirectsChangeValuesAlone → (machine : Machine) (link : LinkInput) (layout : LayoutRecord) (laid : IsLaidOut machine link layout)
@@ -268,14 +266,26 @@ congruent in_step keep machine link layout laid lawful plain i s k p places back
 
 -- ---- relaxation
 
-sections_shrink : RelaxedIsShrunk → DeletionsAreRead → (machine : Machine) (link : LinkInput) (layout : LayoutRecord) (laid : IsLaidOut machine link layout) → SectionsShrink (made_by laid) layout
-sections_shrink shrunk read machine link layout laid =
+deletions_stand : OthersAreNoRedirects → DeletionsAreRead → RelaxedIsShrunk → DeletedSitesAreNear → RefusedExactlyPast → PartsTakeTheirBytes → (machine : Machine) (link : LinkInput) (layout : LayoutRecord) (laid : IsLaidOut machine link layout)
+    → ChangesValuesAlone link.groups (placed_resolutions (made_by laid)) (made_resolutions (made_by laid)) → FlagsStand (made_by laid) (layout_of (made_by laid)) → DeletionsStand (made_by laid) layout
+deletions_stand others read shrunk near refused mass machine link layout laid values flags =
     let by = relaxing_for machine link laid.live in
-    let at_end : SectionsShrink (made_by laid) (layout_of (made_by laid)) = λ k x there. record {
-      of = (shrunk by laid.stage laid.good laid.relaxed).of k x there;
-      shrinks = only_scanned_lose read by laid.stage k x there laid.relaxed;
+    let at_end : DeletionsStand (made_by laid) (layout_of (made_by laid)) = record {
+      of = λ k x there. (shrunk by laid.stage laid.good laid.relaxed).of k x there;
+      shrinks = λ k x there. only_scanned_lose read by laid.stage k x there laid.relaxed;
+      near = candidates_near others read shrunk near refused mass machine link layout laid values flags;
     } in
-    subst (SectionsShrink (made_by laid)) (sym laid.same) at_end
+    subst (DeletionsStand (made_by laid)) (sym laid.same) at_end
+
+-- ---- sorted sections
+
+sorted_stand : LiveSectionsAreOwners → (machine : Machine) (link : LinkInput) (layout : LayoutRecord) (laid : IsLaidOut machine link layout) → SortedStand (made_by laid) layout
+sorted_stand owners machine link layout laid =
+    let last = sorted_stand_last (made_by laid) in
+    let told : SortedAreTold (made_by laid) layout = subst (SortedAreTold (made_by laid)) (sym laid.same) (sorted_are_told owners (made_by laid)) in
+    record { behind = last.behind; among = last.among; inputs = told.inputs; by_name = told.by_name; told = told.told; owners = told.owners }
+
+-- ---- all
 
 -- what is laid out is sound
 is_sound : RelaxedIsShrunk → DeletionsAreRead → DeletedSitesAreNear → OwnersTileTheirPart → OwnersAreAligned → LiveSectionsAreOwners → PartsTakeTheirBytes → RefusedExactlyPast → FileRangesAreDisjoint → PlainMemoryIsDisjoint → PlainMemoryIsCongruent → RecordsKeepAlignments → ThunksHaveRanges → BranchesReach
@@ -288,39 +298,47 @@ is_sound shrunk read near tile aligned owners mass refused file memory in_step k
     let flags : FlagsStand made (layout_of made) = flags_stand made laid.are_live in
     let objects = objects_told others made layout behind in
     let alone = tables_alone (made_filling (made_by laid)) laid.good laid.are_live in
+    let resolutions : ResolutionsStand made layout = subst (ResolutionsStand made) (sym laid.same) (resolutions_stand made flags values) in
+    let numbers : NumbersStand made layout = subst (NumbersStand made) (sym laid.same) (numbers_stand others made laid.are_live values) in
+    let placed = resolved_sections_are_live link laid.live laid.good laid.are_live laid.met in
+    let singles = singles_stand machine link layout laid in
     record {
       is = laid.same;
-      stands = record { relaxed = laid.relaxed; unrefused = laid.unrefused };
+      relaxed = laid.relaxed;
+      unrefused = laid.unrefused;
       met = laid.met;
       reached = laid.are_live;
       shown = shown machine link layout laid;
-      starts = buckets_start refused mass machine link layout laid;
-      images = images_stand machine link layout laid;
-      named = named_symbols_show machine link layout laid objects;
-      references = references_show machine link layout laid;
-      inside = laid.inside;
-      placed = resolved_sections_are_live link laid.live laid.good laid.are_live laid.met;
-      valued = values_are_in_live_sections made layout (deletions_are machine link layout laid) (shown_at machine link layout laid) objects
-          (resolved_sections_are_live link laid.live laid.good laid.are_live laid.met);
-      flags = subst (FlagsStand made) (sym laid.same) flags;
-      given = subst (ResolutionsStand made) (sym laid.same) (resolutions_stand made flags values);
-      numbers = subst (NumbersStand made) (sym laid.same) (numbers_stand others made laid.are_live values);
-      commons = commons_stand tile aligned machine link layout laid objects;
-      edges = subst (EdgesStand made) (sym laid.same) (edges_stand made flags values);
-      redirects = subst (RedirectsStand made) (sym laid.same) (redirects_stand made laid.redirected);
+      aligned = sections_aligned tile aligned owners machine link layout laid;
+      merged = record {
+        starts = buckets_start refused mass machine link layout laid;
+        images = images_stand machine link layout laid;
+        inside = laid.inside;
+        named = named_symbols_show machine link layout laid objects;
+        references = references_show machine link layout laid;
+      };
+      symbols = record {
+        flags = subst (FlagsStand made) (sym laid.same) flags;
+        given = resolutions.given;
+        tells = resolutions.flags;
+        valued = subst (ValuesStand made) (sym laid.same) (values_stand others made values placed);
+        nowhere = numbers.nowhere;
+        unnamed = numbers.unnamed;
+        commons = commons_stand tile aligned machine link layout laid objects;
+        edges = subst (EdgesStand made) (sym laid.same) (edges_stand made flags values);
+        redirects = subst (RedirectsStand made) (sym laid.same) (redirects_stand made laid.redirected);
+      };
       alone = alone;
       entries = entries_stand machine link layout laid lawful.sizes alone behind;
       grouped = subst (GroupsBegin made) (sym laid.same) (groups_begin made (starts_of laid.stage.records) laid.good alone (owners_fit refused mass machine link layout laid)
           (λ k p named. omega (arith, (good_part_fields link laid.good).in_range k p named, starts_count link laid.stage.records (starts_of laid.stage.records) refl laid.stands.placed.each)));
       thunks = thunks_stand refused mass ranges machine link layout laid lawful;
       reaching = branches_reach reach machine link layout laid;
-      shrunk = sections_shrink shrunk read machine link layout laid;
-      limited = subst (DeletedCandidatesAreNear made) (sym laid.same) (candidates_near others read shrunk near refused mass machine link layout laid values flags);
-      ordered = sorted_stand_last (made_by laid);
-      sorted = subst (SortedAreTold made) (sym laid.same) (sorted_are_told owners made);
-      singles = singles_stand machine link layout laid;
+      deletions = deletions_stand others read shrunk near refused mass machine link layout laid values flags;
+      sorted = sorted_stand owners machine link layout laid;
+      singles = singles.told;
+      behind = singles.behind;
       covered = covered machine link layout laid;
-      aligned = sections_aligned tile aligned owners machine link layout laid;
       shared = shared_out tile mass machine link layout laid;
       file = subst (λ rs. FileIsDisjoint rs) (sym (parts_are machine link layout laid))
           (file (set_by laid) laid.stage.states laid.stage.records (ready machine link laid.live laid.stage.walked laid.good) laid.stands.placed);
@@ -328,11 +346,11 @@ is_sound shrunk read near tile aligned owners mass refused file memory in_step k
           let disjoint : MemoryIsDisjoint link.plan records = subst (MemoryIsDisjoint link.plan) (sym (parts_are machine link layout laid))
           (memory (set_by laid) laid.stage.states laid.stage.records (soundly_set machine link layout laid lawful) plain) in
           record {
-            disjoint = disjoint;
-            apart = sections_apart owners (made_by laid) layout laid.good laid.are_live (shown machine link layout laid) (shared_out tile mass machine link layout laid) disjoint;
+            parts = disjoint;
+            sections = sections_apart owners (made_by laid) layout laid.good laid.are_live (shown machine link layout laid) (shared_out tile mass machine link layout laid) disjoint;
             owners = owners_apart (made_by laid) layout (shared_out tile mass machine link layout laid) disjoint;
-            congruent = congruent in_step keep machine link layout laid lawful plain;
           };
+      congruent = λ plain. congruent in_step keep machine link layout laid lawful plain;
     }
 
 pub sound : WellFormedExactlyUnfaulted → RelaxedStands → RelaxedIsShrunk → DeletionsAreRead → DeletedSitesAreNear → OwnersTileTheirPart → OwnersAreAligned → LiveSectionsAreOwners → PartsTakeTheirBytes → RefusedExactlyPast → FileRangesAreDisjoint → PlainMemoryIsDisjoint → PlainMemoryIsCongruent → RecordsKeepAlignments → ThunksHaveRanges → BranchesReach
@@ -356,4 +374,9 @@ laid_out_apart formed owners sound disjoint machine link layout placeable lawful
     let made : Made = made_of machine link found.0 found.1 in
     let is : IsSound made layout = found.2 in
     let memory : MemoryIsDisjoint link.plan layout.section_part_layouts = disjoint machine link layout placeable lawful defined in
-    (found.0, found.1, (is, sections_apart owners made layout good is.reached is.shown is.shared memory, owners_apart made layout is.shared memory))
+    let apart : IsApartInMemory made layout = record {
+      parts = memory;
+      sections = sections_apart owners made layout good is.reached is.shown is.shared memory;
+      owners = owners_apart made layout is.shared memory;
+    } in
+    (found.0, found.1, (is, apart))

@@ -10,7 +10,7 @@ use Rattle.lk_link.specs.WellFormed.{IsWellFormed}
 use Rattle.lk_live.specs.Reach.{AreLive}
 use Rattle.lk_size_laws.proofs.TableParts.{table_parts_have_entries_alone}
 use Rattle.lk_sizes.specs.Owners.{Filling}
-use Rattle.lk_soundness.specs.Sound.{TablesStandAlone}
+use Rattle.lk_soundness.proofs.Stands.{TablesStandAlone}
 
 -- the part of a table is a table part
 named_is_table : (link : LinkInput) (k p : ℕ) → slice_get (table_parts link.plan.named) k ≡ Some (Some p) → is_table_part link.plan.named p ≡ true

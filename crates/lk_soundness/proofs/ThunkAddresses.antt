@@ -25,7 +25,8 @@ use Rattle.lk_layout.specs.LayoutRecord.{LayoutRecord}
 use Rattle.lk_layout.specs.Layouts.{thunk_address}
 use Rattle.lk_layout.specs.Machines.{IsLawfulMachine, Machine}
 use Rattle.lk_layout.specs.Made.{made_filling}
-use Rattle.lk_soundness.specs.Sound.{AreThunksAt, ThunksStand, part_record, told_branching}
+use Rattle.lk_layout.specs.Thunks.{made_branching}
+use Rattle.lk_soundness.specs.Sound.{AreThunksAt, ThunksStand, part_record}
 use Rattle.lk_soundness.proofs.Fitting.{owners_fit}
 use Rattle.lk_layout.proofs.LaidOut.{IsLaidOut, made_by}
 use Rattle.lk_soundness.proofs.ThunksTold.{thunks_addressed, thunks_owned}
@@ -73,7 +74,7 @@ ends_below refused mass machine link layout laid k a place id set s at within =
 -- so the address that is told of each thunk is the one that branches go by
 thunks_told : RefusedExactlyPast → PartsTakeTheirBytes → ThunksHaveRanges → (machine : Machine) (link : LinkInput) (layout : LayoutRecord) (laid : IsLaidOut machine link layout) → IsLawfulMachine machine
     → (k place d : ℕ) (set : List ℕ) → slice_get layout.thunk_blocks k ≡ Some set → slice_get set place ≡ Some d
-    → thunk_address layout k place ≡ option_and_then (thunk_in layout.thunk_size d) (thunks_of (told_branching (made_by laid) layout) k)
+    → thunk_address layout k place ≡ option_and_then (thunk_in layout.thunk_size d) (thunks_of (made_branching (made_by laid)) k)
 thunks_told refused mass ranges machine link layout laid lawful k place d set set_at d_at =
     let size : ℕ = thunk_size (config_for machine.thunks link) in
     let told : Option ℕ = slice_index_or layout.thunk_block_addresses k None in
@@ -93,7 +94,10 @@ thunks_told refused mass ranges machine link layout laid lawful k place d set se
           is_address (a + place * size) below ∙ sym (s.ranges.told a place d d_at)
           ∙ ap (λ (o : Option (List ℕ)). option_and_then (thunk_in size d) (option_map (λ (s : List ℕ). (a, s)) o)) (sym set_at)
     ]) refl in
-    subst (by_size told) (sym size_is) at_size
+    let block : LayoutRecord → Option (ℕ × List ℕ)
+    = λ l. option_and_then (λ (begin : ℕ). option_map (λ (s : List ℕ). (begin, s)) (slice_get l.thunk_blocks k)) (slice_index_or l.thunk_block_addresses k None) in
+    let by_layout : thunk_address layout k place ≡ option_and_then (thunk_in layout.thunk_size d) (block layout) = subst (by_size told) (sym size_is) at_size in
+    by_layout ∙ ap (λ (l : LayoutRecord). option_and_then (thunk_in layout.thunk_size d) (block l)) laid.same
 
 pub thunks_stand : RefusedExactlyPast → PartsTakeTheirBytes → ThunksHaveRanges → (machine : Machine) (link : LinkInput) (layout : LayoutRecord) (laid : IsLaidOut machine link layout) → IsLawfulMachine machine
     → ThunksStand (made_by laid) layout

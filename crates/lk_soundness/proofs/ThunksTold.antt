@@ -1,5 +1,5 @@
 -- Where the thunks of a layout stand, and that branches reach.
-use Rattle.std.proofs.Common.{◌≡◌, ℕ, suc, ◌*◌, ◌==◌, IsSome, filter, length, Bool, true, false, cond, List, [], ◌∷◌, Option, Some, None, sym, ap, subst, ◌∙◌, arith, refl}
+use Rattle.std.proofs.Common.{◌≡◌, ℕ, suc, ◌*◌, ◌==◌, IsSome, filter, length, Bool, true, false, cond, List, [], ◌∷◌, Option, Some, None, sym, ap, ◌∙◌, arith, refl}
 use Rattle.std.specs.Prelude.{find, option_map, slice_get, slice_index}
 use Rattle.std.specs.List.{enumerate_from}
 use Rattle.std.specs.Option.{IfSome, option_map_or}
@@ -31,7 +31,7 @@ use Rattle.lk_resolutions.specs.Starts.{starts_of}
 use Rattle.lk_layout.specs.LayoutRecord.{LayoutRecord}
 use Rattle.lk_layout.specs.Machines.{IsLawfulMachine, Machine}
 use Rattle.lk_layout.specs.Made.{Made, filling_for, made_filling, made_plain}
-use Rattle.lk_soundness.specs.Sound.{AreThunksAt, part_record, told_branching}
+use Rattle.lk_soundness.specs.Sound.{AreThunksAt, part_record}
 use Rattle.lk_layout.specs.Thunks.{made_branching, made_owners, made_places, made_sets, made_users}
 use Rattle.lk_layout.proofs.LaidOut.{IsLaidOut, made_by}
 
@@ -159,7 +159,5 @@ thunks_addressed machine link layout laid k a at =
 
 -- ---- branches
 
-pub branches_reach : BranchesReach → (machine : Machine) (link : LinkInput) (layout : LayoutRecord) (laid : IsLaidOut machine link layout) → LiveBranchesReach (told_branching (made_by laid) layout)
-branches_reach reach machine link layout laid =
-    let made : Made = made_by laid in
-    subst (λ (l : LayoutRecord). LiveBranchesReach (told_branching made l)) (sym laid.same) (reach (made_branching made) laid.reaching)
+pub branches_reach : BranchesReach → (machine : Machine) (link : LinkInput) (layout : LayoutRecord) (laid : IsLaidOut machine link layout) → LiveBranchesReach (made_branching (made_by laid))
+branches_reach reach machine link layout laid = reach (made_branching (made_by laid)) laid.reaching
