@@ -108,7 +108,7 @@ IsMapAnswer (Err line) answer = answer ≡ unreadable (no_map_text line)
 -- ---- of a command
 
 -- the answer of a command to all bytes of its source: of `layout` the report, of `gen` the line of the link that its words give, whatever the
--- bytes, of `why` the way to a section, of `check` the verdict on a map, and of `image` the image; or why there is none
+-- bytes, of `why` the way to a section, or that it isn't reached, of `check` the verdict on a map, and of `image` the image; or why there is none
 abbrev pub IsAnswerOf : Command → List ℕ → Answer → Type 0
 IsAnswerOf (commands.Layout workers) bytes answer = IsAnswerToReading (TellsDefined (λ link layout. done (report link layout))) (reading_of bytes) answer
 IsAnswerOf (commands.Gen seed size) bytes answer = TellsDefined (λ link layout. done (summary seed size layout)) (generated_link seed size) answer

@@ -111,7 +111,7 @@ pub record IsApartInMemory (made : Made) (layout : LayoutRecord) : Type 0 where
 
 -- ---- symbols
 
--- a symbol of an object, by its number, is placed at an offset of a section of its file, and something that is live asks for it
+-- a symbol of an object, by its number, is placed at an offset of a section of its file, stands for itself and is asked for
 pub record IsResolvedAt (made : Made) (s i offset : ℕ) (f : NumberedFile) (x : InputSymbol) (section : InputSection) : Type 0 where
   pub named : numbered_symbol made.link.groups s ≡ Some (f, x)
   pub object : is_object f.file.kind ≡ true
@@ -144,8 +144,9 @@ told_edges made layout = edges_of made.link.plan layout.section_layouts layout.s
 
 -- the flags that are told of a symbol are those that the live have of it, with its late mark, if it gets one. It has a resolution exactly where it
 -- is wanted, by these flags, and is worth anything: in the prelude, in a script or in a synthetic file where it stands at something, in any other
--- always; and that tells these flags. One of an object that is placed in a section is told in a live one, unless its data is merged, and is worth
--- the section's address, and from there where its offset goes by what is deleted. One of an object or of a dynamic file that stands nowhere in the
+-- always; and that tells these flags. One of an object that stands for itself, is asked for and is placed in a section is told in a live one,
+-- unless its data is merged, and is worth the section's address, and from there where its offset goes by what is deleted. One of an object or of a
+-- dynamic file that stands nowhere in the
 -- output is worth its number, if it has a resolution, and so is one without a name in merged data 0. Each common that has a resolution stands
 -- with its bytes in a part. One of the prelude, of a script or of a synthetic file is worth what it is placed at, if anything, where it stands for
 -- itself and is wanted, and else nothing; but each redirect that is evaluated is worth its expression, by what all symbols are worth at last
@@ -220,7 +221,7 @@ pub record IsReference (link : LinkInput) (live : Live) (id : FileId) (file : In
   pub relocation : slice_get section.relocs k ≡ Some r
   pub asks : (resolution_flags r.kind == 0) ≡ false
 
--- there are the starts of the buckets of what is merged, and so stands the image of each output section that has merged inputs. Nothing refers outside
+-- there are the starts of the buckets of what is merged, and the image of each output section that has merged inputs stands by them. Nothing refers outside
 -- their data. A named symbol that has a resolution and is placed in a merged section has an address at which the image of the output section shows
 -- what stands there; and where the definition of such a relocation is placed in merged data, the reference has an address: there the image shows
 -- what it refers to
