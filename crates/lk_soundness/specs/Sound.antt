@@ -144,11 +144,12 @@ told_edges made layout = edges_of made.link.plan layout.section_layouts layout.s
 
 -- the flags that are told of a symbol are those that the live have of it, with its late mark, if it gets one. It has a resolution exactly where it
 -- is wanted, by these flags, and is worth anything: in the prelude, in a script or in a synthetic file where it stands at something, in any other
--- always; and that tells these flags. One of an object that stands for itself, is asked for and is placed in a section is told in a live one,
--- unless its data is merged, and is worth the section's address, and from there where its offset goes by what is deleted. One of an object or of a
--- dynamic file that stands nowhere in the output is worth its number, if it has a resolution, and so is one without a name in merged data 0. Each
--- common that has a resolution stands with its bytes in a part. One of the prelude, of a script or of a synthetic file is worth what it is placed at, if anything, where it stands for
--- itself and is wanted, and else nothing; but each redirect that is evaluated is worth its expression, by what all symbols are worth at last
+-- always; and that tells these flags. One of an object that stands for itself, is asked for and is placed in a section is told in a live one, unless
+-- its data is merged, and is worth the section's address, and from there where its offset goes by what is deleted. One of an object or of a dynamic
+-- file that stands nowhere in the output is worth its number, if it has a resolution, and so is one without a name in merged data 0. Each common
+-- that has a resolution stands with its bytes in a part. One of the prelude, of a script or of a synthetic file is worth what it is placed at, if
+-- anything, where it stands for itself and is wanted, and else nothing; but each redirect that is evaluated is worth its expression, by what all
+-- symbols are worth at last
 pub record SymbolsStand (made : Made) (layout : LayoutRecord) : Type 0 where
   pub flags : (s : ℕ) (f : NumberedFile) (x : InputSymbol) → numbered_symbol made.link.groups s ≡ Some (f, x)
       → flags_at layout.flags s ≡ late_flags made.link (told_marks (made_content made)) f.file.kind s x (flags_at made.live.flags s)
