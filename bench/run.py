@@ -146,7 +146,7 @@ image. Aim: ratio at most 1.3, of it at most 1.
 BASELINE_COLUMNS = (("ours", 7), ("serde", 7), ("ratio", 6), ("peak MB", 8), ("serde MB", 9), ("ratio", 6))
 BASELINE_LEGEND = """\
 ours, serde: processor seconds of reading a description of 100 MB, ours with its check and the answer that a section isn't there;
-then the peak memory. Aim: 1.1 times serde's, 1.15 on tabled.
+then the peak memory. Aim: 0.95 of serde's seconds, 1.1 for tenth, and 0.85 of its memory.
 """
 
 WORKERS_COLUMNS = (
