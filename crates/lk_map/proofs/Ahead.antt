@@ -21,8 +21,8 @@ use Rattle.lk_map.specs.Ahead.{Begins, Opens, Says}
 use Rattle.lk_map.specs.Cutting.{is_byte}
 use Rattle.lk_map.specs.Digits.{AreDigitsIn, IsDigitIn}
 use Rattle.lk_map.specs.Forms.{word_text}
-use Rattle.lk_map.specs.Lines.{behind, joined, value_of, value_or_none, values_of, words_of}
 use Rattle.lk_map.specs.Numbers.{address_in, number_in}
+use Rattle.lk_map.specs.Reading.{behind, joined, value_of, value_or_none, values_of, words_of}
 use Rattle.lk_map.proofs.PlainDigits.{AreDigitsUpTo, number_told}
 use Rattle.lk_map.proofs.WrittenMaps.{word_above}
 

@@ -10,8 +10,9 @@ use Rattle.lk_map.specs.declared.map_text.SegmentLine.{SegmentLine}
 use Rattle.lk_map.specs.Ahead.{SaysSome, Tells}
 use Rattle.lk_map.specs.Cutting.{is_byte}
 use Rattle.lk_map.specs.Forms.{fields_of, follows}
-use Rattle.lk_map.specs.Lines.{words_of}
-use Rattle.lk_map.specs.MapText.{lines_from, parts_of, section_told, segment_told}
+use Rattle.lk_map.specs.MapText.{section_told, segment_told}
+use Rattle.lk_map.specs.Reading.{lines_from, words_of}
+use Rattle.lk_map.specs.Written.{parts_of}
 use Rattle.lk_map.proofs.Reading.{reading_more, told_by}
 use Rattle.lk_map.proofs.Spelled.{form_first}
 

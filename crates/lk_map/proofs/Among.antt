@@ -5,7 +5,8 @@ use Rattle.lk_map.specs.declared.forms.Field.{Field}
 use Rattle.lk_map.specs.declared.forms.Form.{Form}
 use Rattle.lk_map.specs.declared.forms.Form.TheVariants.{Layout}
 use Rattle.lk_map.specs.Forms.{fields_of}
-use Rattle.lk_map.specs.Lines.{Line, line_among, line_or, values_of}
+use Rattle.lk_map.specs.Lines.{Line}
+use Rattle.lk_map.specs.Reading.{line_among, line_or, values_of}
 
 module _ (all : List Form) (i : ℕ) (below : i < length all) (words : List (List ℕ)) (whole : Option Line) (so : line_among (drop i all) words ≡ whole) where
   at : drop i all ≡ get_or all i Layout ∷ drop (i + 1) all

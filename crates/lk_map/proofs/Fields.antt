@@ -6,7 +6,7 @@ use Rattle.std.specs.List.{slice_split}
 use Rattle.std.proofs.lemmas.List.{append-nil, append_assoc, drop_all, drop_more}
 use Rattle.lk_map.specs.declared.forms.Field.{Field}
 use Rattle.lk_map.specs.Cutting.{is_byte, parts_left}
-use Rattle.lk_map.specs.Lines.{behind, joined, value_of, values_of}
+use Rattle.lk_map.specs.Reading.{behind, joined, value_of, values_of}
 use Rattle.lk_map.specs.Values.{values_if}
 use Rattle.lk_map.proofs.Reading.{first_part}
 

@@ -10,9 +10,12 @@ use Rattle.lk_map.specs.declared.forms.Form.{Form}
 use Rattle.lk_map.specs.declared.map_text.SectionLine.{SectionLine}
 use Rattle.lk_map.specs.declared.map_text.SegmentLine.{SegmentLine}
 use Rattle.lk_map.specs.Cutting.{is_byte}
-use Rattle.lk_map.specs.Forms.{follows, is_end, rank}
-use Rattle.lk_map.specs.Lines.{Line, line_of}
-use Rattle.lk_map.specs.MapText.{line_then, lines_from, map_lines, map_of, onto, parts_of, section_at, section_told, sections_of, segment_told, segments_of, told_map, LinesRise}
+use Rattle.lk_map.specs.Forms.{follows, rank}
+use Rattle.lk_map.specs.Lines.{Line}
+use Rattle.lk_map.specs.MapText.{LinesRise, section_at, section_told, sections_of, segment_told, segments_of}
+use Rattle.lk_map.specs.Reading.{is_end, line_of, line_then, lines_from, map_lines, map_of, onto, told_map}
+use Rattle.lk_map.specs.Verdicts.{MapsRise}
+use Rattle.lk_map.specs.Written.{parts_of}
 
 -- what is told once these were told, and lines follow of which the first is line n
 unfoldable pub told_by : List SectionLine → List SegmentLine → ℕ → Result (List Line) ℕ → Result (List SectionLine × List SegmentLine) ℕ
@@ -141,9 +144,13 @@ unfolding told_map sections_in
 told_rise ss gs (Ok ls) is = let same : sections_of 1 ls ≡ ss = ap sections_in is in subst LinesRise same (lines_rise 1 ls)
 told_rise ss gs (Err n) is = cc
 
--- what a map says has its section lines in rising order
+-- what is read of a map has its section lines in rising order
 pub map_rises : (text : List ℕ) (ss : List SectionLine) (gs : List SegmentLine) → map_of text ≡ Ok (ss, gs) → LinesRise ss
 map_rises text ss gs is = told_rise ss gs (map_lines text) is
+
+-- and so has what a map says
+pub maps_rise : MapsRise
+maps_rise text ss gs (lines, is, same) = subst LinesRise (ap (λ (told : List SectionLine × List SegmentLine). told.0) (sym same)) (lines_rise 1 lines)
 
 pub is_empty_text : (xs : List ℕ) → bytes_eq xs [] ≡ (length xs == 0)
 is_empty_text [] = refl

@@ -1,17 +1,21 @@
--- What is refused is refused at the first line at which no map goes on.
-use Rattle.std.proofs.Common.{◌≡◌, ℕ, suc, ◌+◌, ◌<◌, Bool, true, false, List, [], ◌∷◌, Option, Some, None, Result, Ok, Err, length, map, take, refl, sym, ap, ◌∙◌, subst, arith}
+-- What is refused is refused at the first line at which no map goes on; and what is read of a text is what it says.
+use Rattle.std.proofs.Common.{◌≡◌, ℕ, suc, ◌+◌, ◌<◌, ◌≤◌, Bool, true, false, List, [], ◌∷◌, Option, Some, None, Result, Ok, Err, length, map, take, refl, sym, ap, ◌∙◌, subst, ⊎_elim, arith}
 use Rattle.std.specs.Prelude.{◌&&◌, if◌then◌else◌}
 use Rattle.std.specs.Str.{bytes_eq}
-use Rattle.std.proofs.lemmas.Bool.{false≢true}
+use Rattle.std.proofs.lemmas.Bool.{cases_lt, false≢true}
+use Rattle.std.proofs.lemmas.List.{take-take}
 use Rattle.lk_map.specs.declared.forms.Form.{Form}
 use Rattle.lk_map.specs.declared.forms.Form.TheVariants as form
+use Rattle.lk_map.specs.declared.map_text.SectionLine.{SectionLine}
+use Rattle.lk_map.specs.declared.map_text.SegmentLine.{SegmentLine}
 use Rattle.lk_map.specs.Cutting.{is_byte}
-use Rattle.lk_map.specs.Forms.{fields_of, follows, is_end, rank}
-use Rattle.lk_map.specs.Lines.{Line, line_of}
-use Rattle.lk_map.specs.MapText.{line_then, lines_from, onto, parts_of}
-use Rattle.lk_map.specs.Written.{CanStand, GoOn, line_text, RefusesFirst, StandAt}
+use Rattle.lk_map.specs.Forms.{fields_of, follows, rank, row_of}
+use Rattle.lk_map.specs.Lines.{Line}
+use Rattle.lk_map.specs.MapText.{sections_of, segments_of}
+use Rattle.lk_map.specs.Reading.{is_end, line_of, line_then, lines_from, map_lines, map_of, onto, RefusesFirst, TextsAreRead, told_map}
+use Rattle.lk_map.specs.Written.{CanStand, GoOn, IsFirstWrong, line_text, parts_of, StandAt, TextSays}
 use Rattle.lk_map.proofs.Reading.{first_part}
-use Rattle.lk_map.proofs.WrittenMaps.{line_again, line_is, map_is}
+use Rattle.lk_map.proofs.WrittenMaps.{is_map, line_again, line_is, map_is}
 
 -- ---- behind each line a map goes on
 
@@ -25,23 +29,23 @@ end_line : Line
 end_line = record { form = form.End; values = [] }
 
 to_end : GoOn (Some form.Entry) (end_line ∷ []) × GoOn (Some form.NotLoaded) (end_line ∷ []) × GoOn (Some form.NotAnAddress) (end_line ∷ [])
-unfolding GoOn follows is_end rank StandAt fields_of end_line
+unfolding GoOn follows rank StandAt fields_of row_of end_line
 to_end = ((refl, tt, refl), (refl, tt, refl), (refl, tt, refl))
 
 to_entry : (before : Option Form) → follows before form.Entry ≡ true → GoOn before (entry_line ∷ end_line ∷ [])
-unfolding GoOn StandAt CanStand fields_of entry_line
+unfolding GoOn StandAt CanStand fields_of row_of entry_line
 to_entry before can = (can, (tt, tt), to_end.0)
 
 from_start : GoOn None (first_line ∷ entry_line ∷ end_line ∷ [])
-unfolding GoOn StandAt fields_of first_line follows rank
+unfolding GoOn StandAt fields_of first_line follows rank row_of
 from_start = (refl, tt, to_entry (Some form.Layout) refl)
 
 at_end : GoOn (Some form.End) []
-unfolding GoOn is_end rank
+unfolding GoOn
 at_end = refl
 
 ending : (before : Option Form) → (ls : List Line) × GoOn before ls
-unfolding follows rank
+unfolding follows rank row_of
 ending None = (first_line ∷ entry_line ∷ end_line ∷ [], from_start)
 ending (Some form.Layout) = (entry_line ∷ end_line ∷ [], to_entry (Some form.Layout) refl)
 ending (Some form.Section) = (entry_line ∷ end_line ∷ [], to_entry (Some form.Section) refl)
@@ -173,7 +177,7 @@ unfolding lines_from
 wrong_at n before text [] e h = end_wrong before text n e (bytes_eq text [] && is_end before) h
 wrong_at n before text (part ∷ parts) e h = line_case before text (part ∷ parts) n e (line_of text) refl h (λ f. wrong_at (n + 1) (Some f) part parts e)
 
--- ---- the law
+-- ---- the laws
 
 pub refuses_first_wrong : RefusesFirst
 refuses_first_wrong text line e =
@@ -190,3 +194,50 @@ refuses_first_wrong text line e =
           at.wrong ls h (omega arith) (ap (take (at.k + 1)) (sym is) ∙ subst (λ m. take m (parts_of text) ≡ take m (map line_text ls)) same_line same);
       other = λ ls h. no_lines ls line (sym (map_is text ls h) ∙ e);
     }
+
+-- parts that are the same up to a place are so up to an earlier one
+same_before : (m n : ℕ) (xs ys : List (List ℕ)) → m ≤ n → take n xs ≡ take n ys → take m xs ≡ take m ys
+same_before m n xs ys low same = sym (take-take m n xs low) ∙ ap (take m) same ∙ take-take m n ys low
+
+-- a map goes on at each line before the first at which none does
+not_before : (text : List ℕ) (a b : ℕ) → IsFirstWrong text a → IsFirstWrong text b → a < b → ⊥
+not_before text a b one other less =
+    let (n, is, lines, go_on, same) = other.before in
+    let within = other.within in
+    one.wrong lines go_on (omega (arith, less, within)) (same_before a n (parts_of text) (map line_text lines) (omega (arith, is, less)) same)
+
+one_line : (text : List ℕ) (a b : ℕ) → IsFirstWrong text a → IsFirstWrong text b → a ≡ b
+one_line text a b one other =
+    ⊎_elim
+    (λ (less : a < b). absurd (not_before text a b one other less))
+    (λ (high : b ≤ a). ⊎_elim
+    (λ (more : b < a). absurd (not_before text b a other one more))
+    (λ (low : a ≤ b). omega (arith, high, low))
+    (cases_lt b a))
+    (cases_lt a b)
+
+told_says : (text : List ℕ) (r : Result (List Line) ℕ) (said : Result (List SectionLine × List SegmentLine) ℕ) → map_lines text ≡ r → told_map r ≡ said → TextSays text said
+unfolding told_map
+told_says text (Ok lines) said read is =
+    let so : TextSays text (Ok (sections_of 1 lines, segments_of 1 lines)) = (lines, is_map text lines read, refl) in
+    subst (TextSays text) is so
+told_says text (Err n) said read is =
+    let so : TextSays text (Err n) = refuses_first_wrong text n read in
+    subst (TextSays text) is so
+
+told_wrong : (text : List ℕ) (line : ℕ) (r : Result (List Line) ℕ) → IsFirstWrong text line → map_lines text ≡ r → told_map r ≡ Err line
+unfolding told_map
+told_wrong text line (Ok lines) first read = absurd (first.other lines (is_map text lines read))
+told_wrong text line (Err n) first read = ap (λ k. Err k) (one_line text n line (refuses_first_wrong text n read) first)
+
+-- what is read of a text is what it says
+pub read_says : (text : List ℕ) (said : Result (List SectionLine × List SegmentLine) ℕ) → map_of text ≡ said → TextSays text said
+read_says text said is = told_says text (map_lines text) said refl is
+
+says_read : (text : List ℕ) (said : Result (List SectionLine × List SegmentLine) ℕ) → TextSays text said → map_of text ≡ said
+unfolding told_map
+says_read text (Ok told) (lines, is, same) = ap told_map (map_is text lines is) ∙ ap (λ both. Ok both) (sym same)
+says_read text (Err line) first = told_wrong text line (map_lines text) first refl
+
+pub texts_are_read : TextsAreRead
+texts_are_read text said = (read_says text said, says_read text said)

@@ -15,9 +15,10 @@ use Rattle.lk_map.specs.declared.forms.Field.{Field}
 use Rattle.lk_map.specs.declared.forms.Field.TheVariants as is
 use Rattle.lk_map.specs.declared.forms.Form.{Form}
 use Rattle.lk_map.specs.declared.forms.Form.TheVariants as form
-use Rattle.lk_map.specs.Forms.{fields_of, forms, word_text}
-use Rattle.lk_map.specs.Lines.{behind, joined, Line, line_among, line_or, value_of, values_of}
+use Rattle.lk_map.specs.Forms.{fields_of, row_of, word_text}
+use Rattle.lk_map.specs.Lines.{Line}
 use Rattle.lk_map.specs.Numbers.{address_in, number_in}
+use Rattle.lk_map.specs.Reading.{behind, forms, joined, line_among, line_or, value_of, values_of}
 use Rattle.lk_map.specs.Written.{address_text, CanStand, StandAt, value_text, words_for}
 
 -- ---- texts that are equal
@@ -232,7 +233,7 @@ values_are fs words vs e = values_are_so fs words vs e
 
 -- what is written of a line's values is read in the line's form: no earlier form fits its words
 pub form_again : (f : Form) (vs : List (Option ℕ)) → StandAt (fields_of f) vs → line_among forms (words_for (fields_of f) vs) ≡ Some (record { form = f; values = vs })
-unfolding line_among line_or values_of joined value_of fields_of words_for word_text address_in
+unfolding line_among line_or values_of joined value_of fields_of row_of words_for word_text address_in
 form_again form.Layout vs h = ap (λ o. line_or form.Layout o (line_among (drop 1 forms) (words_for (fields_of form.Layout) vs))) (values_again (fields_of form.Layout) vs h)
 form_again form.Section vs h = ap (λ o. line_or form.Section o (line_among (drop 2 forms) (words_for (fields_of form.Section) vs))) (values_again (fields_of form.Section) vs h)
 form_again form.Part vs h = ap (λ o. line_or form.Part o (line_among (drop 3 forms) (words_for (fields_of form.Part) vs))) (values_again (fields_of form.Part) vs h)
@@ -251,7 +252,7 @@ form_again form.End vs h = ap (λ o. line_or form.End o (line_among (drop 15 for
 
 -- a form's line has a first word
 pub first_word : (f : Form) (vs : List (Option ℕ)) → (word : List ℕ) × (words : List (List ℕ)) × (words_for (fields_of f) vs ≡ word ∷ words)
-unfolding fields_of words_for
+unfolding fields_of row_of words_for
 first_word form.Layout vs = (word_text word.Layout, words_for (drop 1 (fields_of form.Layout)) vs, refl)
 first_word form.Section vs = (word_text word.Section, words_for (drop 1 (fields_of form.Section)) vs, refl)
 first_word form.Part vs = (word_text word.Part, words_for (drop 1 (fields_of form.Part)) vs, refl)

@@ -10,11 +10,11 @@ use Rattle.lk_map.specs.declared.check.MapFault.TheVariants.{Overflow, MemOverla
 use Rattle.lk_map.specs.declared.map_text.SectionLine.{SectionLine}
 use Rattle.lk_map.specs.declared.map_text.SegmentLine.{SegmentLine}
 use Rattle.lk_map.specs.declared.spans.Span.{Span}
-use Rattle.lk_map.specs.Checking.{first_outside, first_overflow}
+use Rattle.lk_map.specs.Checking.{first_outside, first_overflow, IsVerdict}
 use Rattle.lk_map.specs.MapText.{LinesRise}
-use Rattle.lk_map.specs.Spans.{AreApart, counts_in_file, counts_in_memory, file_span, file_spans, FindsOverlap, IsBefore, IsFirstOverlap, LinesRiseIn, memory_span, memory_spans, Overlaps}
-use Rattle.lk_map.specs.Verdicts.{IsVerdict, MapsAreJudged, VerdictsAgree, VerdictsTellGood}
-use Rattle.lk_map.proofs.Goodness.{any_of, contains_more, counted_in_file, counted_in_memory, have_bytes, judged_tells, none_of, overlap_not}
+use Rattle.lk_map.specs.Spans.{AreApart, counts_in_file, counts_in_memory, file_spans, FindsOverlap, IsBefore, IsFirstOverlap, LinesRiseIn, memory_spans, Overlaps}
+use Rattle.lk_map.specs.Verdicts.{MapsAreJudged, VerdictsAgree, VerdictsTellGood}
+use Rattle.lk_map.proofs.Goodness.{any_of, contains_more, counted_in_file, counted_in_memory, file_span, have_bytes, judged_tells, memory_span, none_of, overlap_not}
 use Rattle.lk_map.proofs.Overlaps.{spans_rise}
 
 -- ---- the order of ranges, as a test
@@ -207,23 +207,23 @@ module _ (ss : List SectionLine) (gs : List SegmentLine) where
   -- one for each stage of a check
   outside_case : first_overflow ss gs ≡ None → AreApart (memory_spans ss) → AreApart (file_spans ss) → (o : Option ℕ) → first_outside ss gs ≡ o → Verdict
   unfolding Verdict
-  outside_case ends memory file None e = (Ok tt, ((λ h. cc), (ends, memory, file, e)))
-  outside_case ends memory file (Some line) e = (Err (NoSegment line), ((λ h. cc), (ends, memory, file, e)))
+  outside_case ends memory file None e = (Ok tt, (ends, memory, file, e))
+  outside_case ends memory file (Some line) e = (Err (NoSegment line), (ends, memory, file, e))
 
   file_case : first_overflow ss gs ≡ None → AreApart (memory_spans ss) → AreApart (file_spans ss) ⊎ ((a : ℕ) × (b : ℕ) × FindsOverlap (file_spans ss) (Some (a, b))) → Verdict
   unfolding Verdict
   file_case ends memory (inl file) = outside_case ends memory file (first_outside ss gs) refl
-  file_case ends memory (inr (a, b, found)) = (Err (FileOverlap a b), ((λ h. cc), (ends, memory, found)))
+  file_case ends memory (inr (a, b, found)) = (Err (FileOverlap a b), (ends, memory, found))
 
   memory_case : LinesRise ss → first_overflow ss gs ≡ None → AreApart (memory_spans ss) ⊎ ((a : ℕ) × (b : ℕ) × FindsOverlap (memory_spans ss) (Some (a, b))) → Verdict
   unfolding Verdict
   memory_case rise ends (inl memory) = file_case ends memory (found_in (file_spans ss) (spans_rise counts_in_file file_span (λ s. refl) ss rise))
-  memory_case rise ends (inr (a, b, found)) = (Err (MemOverlap a b), ((λ h. cc), (ends, found)))
+  memory_case rise ends (inr (a, b, found)) = (Err (MemOverlap a b), (ends, found))
 
   ends_case : LinesRise ss → (o : Option ℕ) → first_overflow ss gs ≡ o → Verdict
   unfolding Verdict
   ends_case rise None e = memory_case rise e (found_in (memory_spans ss) (spans_rise counts_in_memory memory_span (λ s. refl) ss rise))
-  ends_case rise (Some line) e = (Err (Overflow line), ((λ h. cc), e))
+  ends_case rise (Some line) e = (Err (Overflow line), e)
 
 pub maps_are_judged : MapsAreJudged
 unfolding Verdict
@@ -247,55 +247,55 @@ module _ (ss : List SectionLine) (gs : List SegmentLine) where
 
   overflow_agrees : (a : ℕ) (other : Result (Unit {0}) MapFault) → Agrees (Err (Overflow a)) other
   unfolding Agrees
-  overflow_agrees a (Ok u) (_, over) (_, (ends, _, _, _)) = absurd (not_both (first_overflow ss gs) a ends over)
-  overflow_agrees a (Err (Overflow b)) (_, over) (_, over') = ap (λ n. Err (Overflow n)) (one_number (first_overflow ss gs) a b over over')
-  overflow_agrees a (Err (MemOverlap b c)) (_, over) (_, (ends, _)) = absurd (not_both (first_overflow ss gs) a ends over)
-  overflow_agrees a (Err (FileOverlap b c)) (_, over) (_, (ends, _, _)) = absurd (not_both (first_overflow ss gs) a ends over)
-  overflow_agrees a (Err (NoSegment b)) (_, over) (_, (ends, _, _, _)) = absurd (not_both (first_overflow ss gs) a ends over)
-  overflow_agrees a (Err NoMemory) h (not, _) = absurd (not refl)
+  overflow_agrees a (Ok u) over (ends, _, _, _) = absurd (not_both (first_overflow ss gs) a ends over)
+  overflow_agrees a (Err (Overflow b)) over over' = ap (λ n. Err (Overflow n)) (one_number (first_overflow ss gs) a b over over')
+  overflow_agrees a (Err (MemOverlap b c)) over (ends, _) = absurd (not_both (first_overflow ss gs) a ends over)
+  overflow_agrees a (Err (FileOverlap b c)) over (ends, _, _) = absurd (not_both (first_overflow ss gs) a ends over)
+  overflow_agrees a (Err (NoSegment b)) over (ends, _, _, _) = absurd (not_both (first_overflow ss gs) a ends over)
+  overflow_agrees a (Err NoMemory) h never = absurd never
 
   pairs_are : (make : ℕ → ℕ → MapFault) (a b c d : ℕ) → (a ≡ c) × (b ≡ d) → ◌≡◌ {A = Result (Unit {0}) MapFault} (Err (make a b)) (Err (make c d))
   pairs_are make a b c d (p, q) = ap (λ n. Err (make n b)) p ∙ ap (λ n. Err (make c n)) q
 
   memory_agrees : (a b : ℕ) (other : Result (Unit {0}) MapFault) → Agrees (Err (MemOverlap a b)) other
   unfolding Agrees
-  memory_agrees a b (Ok u) (_, (_, found)) (_, (_, memory, _, _)) = absurd (in_memory a b memory found)
-  memory_agrees a b (Err (Overflow c)) (_, (ends, _)) (_, over) = absurd (not_both (first_overflow ss gs) c ends over)
-  memory_agrees a b (Err (MemOverlap c d)) (_, (_, found)) (_, (_, found')) = pairs_are MemOverlap a b c d (same_lines (memory_spans ss) a b c d found found')
-  memory_agrees a b (Err (FileOverlap c d)) (_, (_, found)) (_, (_, memory, _)) = absurd (in_memory a b memory found)
-  memory_agrees a b (Err (NoSegment c)) (_, (_, found)) (_, (_, memory, _, _)) = absurd (in_memory a b memory found)
-  memory_agrees a b (Err NoMemory) h (not, _) = absurd (not refl)
+  memory_agrees a b (Ok u) (_, found) (_, memory, _, _) = absurd (in_memory a b memory found)
+  memory_agrees a b (Err (Overflow c)) (ends, _) over = absurd (not_both (first_overflow ss gs) c ends over)
+  memory_agrees a b (Err (MemOverlap c d)) (_, found) (_, found') = pairs_are MemOverlap a b c d (same_lines (memory_spans ss) a b c d found found')
+  memory_agrees a b (Err (FileOverlap c d)) (_, found) (_, memory, _) = absurd (in_memory a b memory found)
+  memory_agrees a b (Err (NoSegment c)) (_, found) (_, memory, _, _) = absurd (in_memory a b memory found)
+  memory_agrees a b (Err NoMemory) h never = absurd never
 
   file_agrees : (a b : ℕ) (other : Result (Unit {0}) MapFault) → Agrees (Err (FileOverlap a b)) other
   unfolding Agrees
-  file_agrees a b (Ok u) (_, (_, _, found)) (_, (_, _, file, _)) = absurd (in_file a b file found)
-  file_agrees a b (Err (Overflow c)) (_, (ends, _, _)) (_, over) = absurd (not_both (first_overflow ss gs) c ends over)
-  file_agrees a b (Err (MemOverlap c d)) (_, (_, memory, _)) (_, (_, found)) = absurd (in_memory c d memory found)
-  file_agrees a b (Err (FileOverlap c d)) (_, (_, _, found)) (_, (_, _, found')) = pairs_are FileOverlap a b c d (same_lines (file_spans ss) a b c d found found')
-  file_agrees a b (Err (NoSegment c)) (_, (_, _, found)) (_, (_, _, file, _)) = absurd (in_file a b file found)
-  file_agrees a b (Err NoMemory) h (not, _) = absurd (not refl)
+  file_agrees a b (Ok u) (_, _, found) (_, _, file, _) = absurd (in_file a b file found)
+  file_agrees a b (Err (Overflow c)) (ends, _, _) over = absurd (not_both (first_overflow ss gs) c ends over)
+  file_agrees a b (Err (MemOverlap c d)) (_, memory, _) (_, found) = absurd (in_memory c d memory found)
+  file_agrees a b (Err (FileOverlap c d)) (_, _, found) (_, _, found') = pairs_are FileOverlap a b c d (same_lines (file_spans ss) a b c d found found')
+  file_agrees a b (Err (NoSegment c)) (_, _, found) (_, _, file, _) = absurd (in_file a b file found)
+  file_agrees a b (Err NoMemory) h never = absurd never
 
   segment_agrees : (a : ℕ) (other : Result (Unit {0}) MapFault) → Agrees (Err (NoSegment a)) other
   unfolding Agrees
-  segment_agrees a (Ok u) (_, (_, _, _, out)) (_, (_, _, _, none)) = absurd (not_both (first_outside ss gs) a none out)
-  segment_agrees a (Err (Overflow c)) (_, (ends, _, _, _)) (_, over) = absurd (not_both (first_overflow ss gs) c ends over)
-  segment_agrees a (Err (MemOverlap c d)) (_, (_, memory, _, _)) (_, (_, found)) = absurd (in_memory c d memory found)
-  segment_agrees a (Err (FileOverlap c d)) (_, (_, _, file, _)) (_, (_, _, found)) = absurd (in_file c d file found)
-  segment_agrees a (Err (NoSegment c)) (_, (_, _, _, out)) (_, (_, _, _, out')) = ap (λ n. Err (NoSegment n)) (one_number (first_outside ss gs) a c out out')
-  segment_agrees a (Err NoMemory) h (not, _) = absurd (not refl)
+  segment_agrees a (Ok u) (_, _, _, out) (_, _, _, none) = absurd (not_both (first_outside ss gs) a none out)
+  segment_agrees a (Err (Overflow c)) (ends, _, _, _) over = absurd (not_both (first_overflow ss gs) c ends over)
+  segment_agrees a (Err (MemOverlap c d)) (_, memory, _, _) (_, found) = absurd (in_memory c d memory found)
+  segment_agrees a (Err (FileOverlap c d)) (_, _, file, _) (_, _, found) = absurd (in_file c d file found)
+  segment_agrees a (Err (NoSegment c)) (_, _, _, out) (_, _, _, out') = ap (λ n. Err (NoSegment n)) (one_number (first_outside ss gs) a c out out')
+  segment_agrees a (Err NoMemory) h never = absurd never
 
   good_agrees : (other : Result (Unit {0}) MapFault) → Agrees (Ok tt) other
   unfolding Agrees
   good_agrees (Ok u) h k = refl
-  good_agrees (Err (Overflow c)) (_, (ends, _, _, _)) (_, over) = absurd (not_both (first_overflow ss gs) c ends over)
-  good_agrees (Err (MemOverlap c d)) (_, (_, memory, _, _)) (_, (_, found)) = absurd (in_memory c d memory found)
-  good_agrees (Err (FileOverlap c d)) (_, (_, _, file, _)) (_, (_, _, found)) = absurd (in_file c d file found)
-  good_agrees (Err (NoSegment c)) (_, (_, _, _, none)) (_, (_, _, _, out)) = absurd (not_both (first_outside ss gs) c none out)
-  good_agrees (Err NoMemory) h (not, _) = absurd (not refl)
+  good_agrees (Err (Overflow c)) (ends, _, _, _) over = absurd (not_both (first_overflow ss gs) c ends over)
+  good_agrees (Err (MemOverlap c d)) (_, memory, _, _) (_, found) = absurd (in_memory c d memory found)
+  good_agrees (Err (FileOverlap c d)) (_, _, file, _) (_, _, found) = absurd (in_file c d file found)
+  good_agrees (Err (NoSegment c)) (_, _, _, none) (_, _, _, out) = absurd (not_both (first_outside ss gs) c none out)
+  good_agrees (Err NoMemory) h never = absurd never
 
   no_memory_agrees : (other : Result (Unit {0}) MapFault) → Agrees (Err NoMemory) other
   unfolding Agrees
-  no_memory_agrees other (not, _) k = absurd (not refl)
+  no_memory_agrees other never k = absurd never
 
   agrees : (one other : Result (Unit {0}) MapFault) → Agrees one other
   agrees (Ok u) other = good_agrees other
@@ -312,9 +312,9 @@ verdicts_agree ss gs one other h k = agrees ss gs one other h k
 -- ---- what a verdict tells
 
 pub verdicts_tell_good : VerdictsTellGood
-verdicts_tell_good ss gs (Ok u) (_, judged) = (λ _. judged_tells (Ok u) ss gs judged, λ _. refl)
-verdicts_tell_good ss gs (Err (Overflow a)) (_, judged) = (λ h. cc, λ good. absurd (judged_tells (Err (Overflow a)) ss gs judged good))
-verdicts_tell_good ss gs (Err (MemOverlap a b)) (_, judged) = (λ h. cc, λ good. absurd (judged_tells (Err (MemOverlap a b)) ss gs judged good))
-verdicts_tell_good ss gs (Err (FileOverlap a b)) (_, judged) = (λ h. cc, λ good. absurd (judged_tells (Err (FileOverlap a b)) ss gs judged good))
-verdicts_tell_good ss gs (Err (NoSegment a)) (_, judged) = (λ h. cc, λ good. absurd (judged_tells (Err (NoSegment a)) ss gs judged good))
-verdicts_tell_good ss gs (Err NoMemory) (not, judged) = absurd (not refl)
+verdicts_tell_good ss gs (Ok u) judged = (λ _. judged_tells (Ok u) ss gs judged, λ _. refl)
+verdicts_tell_good ss gs (Err (Overflow a)) judged = (λ h. cc, λ good. absurd (judged_tells (Err (Overflow a)) ss gs judged good))
+verdicts_tell_good ss gs (Err (MemOverlap a b)) judged = (λ h. cc, λ good. absurd (judged_tells (Err (MemOverlap a b)) ss gs judged good))
+verdicts_tell_good ss gs (Err (FileOverlap a b)) judged = (λ h. cc, λ good. absurd (judged_tells (Err (FileOverlap a b)) ss gs judged good))
+verdicts_tell_good ss gs (Err (NoSegment a)) judged = (λ h. cc, λ good. absurd (judged_tells (Err (NoSegment a)) ss gs judged good))
+verdicts_tell_good ss gs (Err NoMemory) never = absurd never

@@ -16,11 +16,12 @@ use Rattle.lk_map.specs.declared.forms.Word.TheVariants as word
 use Rattle.lk_map.specs.declared.forms.Field.{Field}
 use Rattle.lk_map.specs.declared.forms.Field.TheVariants as is
 use Rattle.lk_map.specs.declared.forms.Form.{Form}
+use Rattle.lk_map.specs.declared.forms.Form.TheVariants as form
 use Rattle.lk_map.specs.Cutting.{is_byte}
-use Rattle.lk_map.specs.Forms.{fields_of, follows, forms, is_end, word_text}
-use Rattle.lk_map.specs.Lines.{Line, line_among, line_of, words_of}
-use Rattle.lk_map.specs.MapText.{line_then, lines_from, map_lines, onto, parts_of}
-use Rattle.lk_map.specs.Written.{CanStand, GoOn, IsMap, line_text, ReadsMaps, StandAt, value_text, words_for}
+use Rattle.lk_map.specs.Forms.{fields_of, follows, rank, row_of, word_text}
+use Rattle.lk_map.specs.Lines.{Line}
+use Rattle.lk_map.specs.Reading.{forms, is_end, line_among, line_of, line_then, lines_from, map_lines, onto, ReadsMaps, words_of}
+use Rattle.lk_map.specs.Written.{CanStand, GoOn, IsMap, line_text, parts_of, StandAt, value_text, words_for}
 use Rattle.lk_map.proofs.Spelled.{first_word, form_again, line_is_of, numeral, text_is}
 
 -- ---- no word has a blank or a line feed
@@ -194,6 +195,30 @@ joined_feeds (l ∷ ls) =
 
 -- ---- lines that follow one another
 
+-- a map ends with the form that is its end
+last_so : (before : Option Form) → before ≡ Some form.End → is_end before ≡ true
+unfolding is_end rank row_of
+last_so before is = ap is_end is
+
+last_is : (before : Option Form) → is_end before ≡ true → before ≡ Some form.End
+unfolding is_end rank row_of
+last_is None e = absurd (false≢true e)
+last_is (Some form.Layout) e = absurd (false≢true e)
+last_is (Some form.Section) e = absurd (false≢true e)
+last_is (Some form.Part) e = absurd (false≢true e)
+last_is (Some form.Segment) e = absurd (false≢true e)
+last_is (Some form.Live) e = absurd (false≢true e)
+last_is (Some form.Single) e = absurd (false≢true e)
+last_is (Some form.Merged) e = absurd (false≢true e)
+last_is (Some form.Piece) e = absurd (false≢true e)
+last_is (Some form.Block) e = absurd (false≢true e)
+last_is (Some form.Thunk) e = absurd (false≢true e)
+last_is (Some form.Symbol) e = absurd (false≢true e)
+last_is (Some form.Entry) e = absurd (false≢true e)
+last_is (Some form.NotLoaded) e = absurd (false≢true e)
+last_is (Some form.NotAnAddress) e = absurd (false≢true e)
+last_is (Some form.End) e = refl
+
 lines_step : (n : ℕ) (before : Option Form) (here : List ℕ) (all : List (List ℕ)) (part : List ℕ) (parts : List (List ℕ)) → all ≡ part ∷ parts →
     lines_from n before (here ∷ all) ≡ line_then n before (line_of here) (λ form. lines_from (n + 1) (Some form) all)
 unfolding lines_from
@@ -205,7 +230,7 @@ then_on n before l more can = ap (λ b. if b then onto l (more l.form) else Err 
 
 lines_again : (n : ℕ) (before : Option Form) (ls : List Line) → GoOn before ls → lines_from n before (parts_for ls) ≡ Ok ls
 unfolding GoOn parts_for lines_from
-lines_again n before [] last = ap (λ b. if b then Ok [] else Err n) last
+lines_again n before [] last = ap (λ b. if b then Ok [] else Err n) (last_so before last)
 lines_again n before (l ∷ ls) (can, stand, rest) =
     let (part, parts, is) = some_part ls in
     let more : Form → Result (List Line) ℕ = λ form. lines_from (n + 1) (Some form) (parts_for ls) in
@@ -245,7 +270,7 @@ unfolding GoOn parts_for lines_from ThenIs
 lines_are n before [] ls e = cc
 lines_are n before (rest ∷ []) ls e =
     let (empty, last, none) = end_is (bytes_eq rest []) (is_end before) n ls e in
-    (subst (GoOn before) (sym none) last, ap (λ x. x ∷ []) (text_is rest [] empty) ∙ ap parts_for (sym none))
+    (subst (GoOn before) (sym none) (last_is before last), ap (λ x. x ∷ []) (text_is rest [] empty) ∙ ap parts_for (sym none))
 lines_are n before (text ∷ part ∷ parts) ls e =
     let (l, rest, says, can, more, same) = then_is n before (line_of text) (λ form. lines_from (n + 1) (Some form) (part ∷ parts)) ls e in
     let (go_on, are) = lines_are (n + 1) (Some l.form) (part ∷ parts) rest more in

@@ -7,8 +7,8 @@ use Rattle.lk_map.specs.declared.map_text.SectionLine.{SectionLine}
 use Rattle.lk_map.specs.declared.map_text.SegmentLine.{SegmentLine}
 use Rattle.lk_map.specs.Cutting.{is_byte}
 use Rattle.lk_map.specs.Forms.{fields_of, follows}
-use Rattle.lk_map.specs.Lines.{values_of, words_of}
 use Rattle.lk_map.specs.MapText.{section_told, segment_told}
+use Rattle.lk_map.specs.Reading.{values_of, words_of}
 
 -- a text begins with a word that says this, and behind it stand this byte and the rest; no blank or line feed is in the word
 abbrev pub Begins : ℕ → List ℕ → List ℕ → (List ℕ → Type 0) → Type 0

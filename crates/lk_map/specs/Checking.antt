@@ -52,14 +52,19 @@ first_outside sections segments = option_map (λ s. s.line) (find (is_outside se
 
 -- ---- the check
 
--- what a check tells of sections and segments: the first fault in this order, or none; nothing is said of a want of memory
-abbrev pub Judges : Result (Unit {0}) MapFault → List SectionLine → List SegmentLine → Type 0
-Judges (Ok _) sections segments =
+-- a verdict on sections and segments: the first fault in this order, or that there is none
+abbrev pub IsVerdict : Result (Unit {0}) MapFault → List SectionLine → List SegmentLine → Type 0
+IsVerdict (Ok _) sections segments =
     (first_overflow sections segments ≡ None) × AreApart (memory_spans sections) × AreApart (file_spans sections) × (first_outside sections segments ≡ None)
-Judges (Err (Overflow line)) sections segments = first_overflow sections segments ≡ Some line
-Judges (Err (MemOverlap a b)) sections segments = (first_overflow sections segments ≡ None) × FindsOverlap (memory_spans sections) (Some (a, b))
-Judges (Err (FileOverlap a b)) sections segments =
+IsVerdict (Err (Overflow line)) sections segments = first_overflow sections segments ≡ Some line
+IsVerdict (Err (MemOverlap a b)) sections segments = (first_overflow sections segments ≡ None) × FindsOverlap (memory_spans sections) (Some (a, b))
+IsVerdict (Err (FileOverlap a b)) sections segments =
     (first_overflow sections segments ≡ None) × AreApart (memory_spans sections) × FindsOverlap (file_spans sections) (Some (a, b))
-Judges (Err (NoSegment line)) sections segments =
+IsVerdict (Err (NoSegment line)) sections segments =
     (first_overflow sections segments ≡ None) × AreApart (memory_spans sections) × AreApart (file_spans sections) × (first_outside sections segments ≡ Some line)
+IsVerdict (Err NoMemory) sections segments = ⊥
+
+-- what a check tells of sections and segments: the verdict on them; nothing is said of a want of memory
+abbrev pub Judges : Result (Unit {0}) MapFault → List SectionLine → List SegmentLine → Type 0
 Judges (Err NoMemory) sections segments = Unit {0}
+Judges result sections segments = IsVerdict result sections segments

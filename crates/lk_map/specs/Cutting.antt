@@ -1,4 +1,4 @@
--- Texts cut at a byte.
+-- Private: texts cut at a byte.
 use Rattle.std.specs.Prelude.{ℕ, ◌==◌, Bool, List, [], Option, Some, None}
 use Rattle.std.specs.List.{slice_split}
 

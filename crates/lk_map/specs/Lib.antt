@@ -8,6 +8,7 @@ pub mod Good
 pub mod Lines
 pub mod MapText
 pub mod Numbers
+pub mod Reading
 pub mod Sorted
 pub mod Spans
 pub mod Sweep

@@ -1,4 +1,4 @@
--- How a map writes numbers, and what is read as one.
+-- Private: what a word is read as, where a map writes a number.
 use Rattle.std.specs.Prelude.{ℕ, ◌^◌, ◌&&◌, nat_lt, false, if◌then◌else◌, List, Option, Some, None, codes, take, drop}
 use Rattle.std.specs.Str.{bytes_eq}
 use Rattle.std.specs.Str.Parse.{digits_value}

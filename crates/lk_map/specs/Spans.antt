@@ -25,21 +25,13 @@ counts_in_file s = nat_lt 0 s.file_size
 
 -- ---- ranges
 
--- the range of a section in memory, with its line
-abbrev pub memory_span : SectionLine → Span
-memory_span s = record { start = s.mem_offset; line = s.line; size = s.mem_size }
-
--- in the file
-abbrev pub file_span : SectionLine → Span
-file_span s = record { start = s.file_offset; line = s.line; size = s.file_size }
-
--- the ranges of all sections that count in memory
+-- the ranges in memory of all sections that count there, each with its line
 abbrev pub memory_spans : List SectionLine → List Span
-memory_spans sections = map memory_span (filter counts_in_memory sections)
+memory_spans sections = map (λ s. record { start = s.mem_offset; line = s.line; size = s.mem_size }) (filter counts_in_memory sections)
 
--- of all that count in the file
+-- those in the file of all that count there
 abbrev pub file_spans : List SectionLine → List Span
-file_spans sections = map file_span (filter counts_in_file sections)
+file_spans sections = map (λ s. record { start = s.file_offset; line = s.line; size = s.file_size }) (filter counts_in_file sections)
 
 -- ranges have no byte in common, any two of them
 abbrev pub AreApart : List Span → Type 0

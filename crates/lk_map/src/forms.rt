@@ -1,7 +1,7 @@
 //! The forms of a map's lines: the one table by which a line is read.
 
 ghost use Rattle.std.specs.Prelude.{◌≡◌, ℕ, ◌≤◌, List, length};
-ghost use Rattle.lk_map.specs.Forms.{fields_of, forms, rank, word_text};
+ghost use Rattle.lk_map.specs.Forms.{fields_of, rank, word_text};
 
 /// A word that stands in a line as it is.
 #[derive(Clone, Copy)]
@@ -270,7 +270,7 @@ const NOT_AN_ADDRESS_FIELDS: [Field; 4] = [
 const END_FIELDS: [Field; 1] = [Field::Word(Word::End)];
 
 /// The fields of a form, in their order.
-#[tactic(auto, unfolding(crate::specs::Forms::fields_of))]
+#[tactic(auto, unfolding(crate::specs::Forms::fields_of, crate::specs::Forms::row_of))]
 pub fn fields(form: Form) -> &'static [Field]
     ensures fields { result.now ≡ fields_of form }
     ensures few { length result.now ≤ 16 }
@@ -295,7 +295,7 @@ pub fn fields(form: Form) -> &'static [Field]
 }
 
 /// The place of a form's lines among all lines of a map.
-#[tactic(auto, unfolding(crate::specs::Forms::rank))]
+#[tactic(auto, unfolding(crate::specs::Forms::rank, crate::specs::Forms::row_of))]
 pub fn rank_of(form: Form) -> u8
     ensures rank { result ≡ rank form }
     ensures low { result ≤ 12 }

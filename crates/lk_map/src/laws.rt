@@ -1,8 +1,8 @@
 //! Laws on maps. Each is a function that does nothing, and ensures its law.
 
 ghost use Rattle.lk_map.specs.Good.{GoodMapsAreCongruent};
+ghost use Rattle.lk_map.specs.Reading.{ReadsMaps, RefusesFirst, TextsAreRead};
 ghost use Rattle.lk_map.specs.Verdicts.{MapsAreJudged, MapsRise, VerdictsAgree, VerdictsTellGood};
-ghost use Rattle.lk_map.specs.Written.{ReadsMaps, RefusesFirst};
 
 /// A text is read as these lines exactly where it is a map of them.
 pub fn reads_maps()
@@ -12,6 +12,11 @@ pub fn reads_maps()
 /// A text that is no map is refused at the first line at which no map goes on.
 pub fn refuses_first()
     ensures { RefusesFirst }
+{}
+
+/// What is read of a text is what it says, and no text says anything else.
+pub fn texts_are_read()
+    ensures { TextsAreRead }
 {}
 
 /// In a good map each section that is allocated and has bytes in the file is as far behind the start of a segment that holds it in memory as

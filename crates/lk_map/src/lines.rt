@@ -3,9 +3,8 @@
 ghost use Rattle.std.specs.Prelude.{◌≡◌, ℕ, ◌≤◌, ◌<◌, ◌+◌, List, ◌∷◌, ◌++◌, [], Some, None, length, option_copied, option_map};
 ghost use Rattle.std.specs.List.{slice_split};
 ghost use Rattle.lk_map.specs.Cutting.{is_byte, parts_left};
-ghost use Rattle.lk_map.specs.Forms.{forms};
-ghost use Rattle.lk_map.specs.Lines.{behind, line_among, line_of, value_of, values_of, words_of};
 ghost use Rattle.lk_map.specs.MapText.{number_at};
+ghost use Rattle.lk_map.specs.Reading.{behind, forms, line_among, line_of, value_of, values_of, words_of};
 ghost use Rattle.lk_map.specs.Values.{line_if, shown, values_if};
 
 use crate::cut::cut_word;
@@ -70,7 +69,7 @@ impl Values {
     }
 
     /// Adds what a word says in a field. Says whether it fits.
-    #[tactic(auto, unfolding(crate::specs::Lines::value_of))]
+    #[tactic(auto, unfolding(crate::specs::Reading::value_of))]
     fn take(&mut self, field: Field, word: &[u8]) -> bool
         requires { self.old.count < 16 }
         ensures values { values_if result (shown self.new) ≡ behind (shown self.old) (value_of field word.now) }

@@ -2,9 +2,11 @@
 
 ghost use Rattle.std.specs.Prelude.{◌≡◌, ℕ, ◌+◌, ◌++◌, IfOk};
 ghost use Rattle.lk_map.specs.Alike.{kept_sections, kept_segments};
-ghost use Rattle.lk_map.specs.Forms.{follows, is_end};
-ghost use Rattle.lk_map.specs.MapText.{map_of, section_at, section_told, segment_at, segment_told, Gives, LinesRise};
+ghost use Rattle.lk_map.specs.Forms.{follows};
+ghost use Rattle.lk_map.specs.MapText.{section_at, section_told, segment_at, segment_told, LinesRise};
+ghost use Rattle.lk_map.specs.Reading.{is_end};
 ghost use Rattle.lk_map.specs.Values.{shown};
+ghost use Rattle.lk_map.specs.Written.{Gives};
 
 use crate::cut::cut_line;
 use crate::forms::{END_RANK, ENTRY_RANK, Form, LAYOUT_RANK, SECTION_RANK, SEGMENT_RANK, rank_of};
@@ -139,20 +141,17 @@ fn goes_on(before: Option<Form>, form: Form) -> bool
         None => rank == LAYOUT_RANK,
         Some(before) => {
             let last = rank_of(before);
-            let is_single = last == LAYOUT_RANK || last == ENTRY_RANK || last == END_RANK;
-            let least = if is_single { last + 1 } else { last };
-            let most = if last == ENTRY_RANK {
-                END_RANK
+            if last == ENTRY_RANK {
+                rank == END_RANK
             } else {
-                ENTRY_RANK
-            };
-            least <= rank && rank <= most
+                last <= rank && LAYOUT_RANK < rank && rank < END_RANK
+            }
         }
     }
 }
 
 /// Whether the last line was the end.
-#[tactic(auto, unfolding(crate::specs::Forms::is_end))]
+#[tactic(auto, unfolding(crate::specs::Reading::is_end))]
 fn is_last(before: Option<Form>) -> bool
     ensures { result ≡ is_end before }
 {
@@ -164,7 +163,7 @@ fn is_last(before: Option<Form>) -> bool
 
 /// Reads a map: the lines of a report, in the order of their kinds, each ended by a line feed.
 pub fn read_map(alloc: Global, text: &[u8]) -> Result<MapText, MapError>
-    ensures read { Gives result (map_of text.now) }
+    ensures read { Gives result text.now }
     ensures rises { IfOk result (λ map. LinesRise map.sections.items) }
 {
     let mut map = MapText {

@@ -2,7 +2,7 @@
 
 ghost use Rattle.std.specs.Prelude.{◌≡◌, ℕ, ◌+◌, ◌<◌, ◌≤◌, length, min, max, slice_index_or, true, IfOk, IfSome, MatchOption};
 ghost use Rattle.lk_map.specs.MapText.{LinesRise};
-ghost use Rattle.lk_map.specs.Spans.{counts_in_file, counts_in_memory, file_span, file_spans, memory_span, memory_spans, AreApart, FindsOverlap, LinesRiseIn};
+ghost use Rattle.lk_map.specs.Spans.{counts_in_file, counts_in_memory, file_spans, memory_spans, AreApart, FindsOverlap, LinesRiseIn};
 ghost use Rattle.lk_map.specs.Spans.{is_allocated as is_allocated_line};
 ghost use Rattle.lk_map.specs.Sorted.{NeighboursApart, StartsBelow};
 

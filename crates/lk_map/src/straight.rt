@@ -295,7 +295,7 @@ fn behind_symbol(text: &[u8]) -> Option<&[u8]>
 }
 
 /// What stands behind a text's first line, which has this number, if it has this form, and no section or segment is kept of it.
-#[tactic(auto, unfolding(crate::specs::MapText::section_told, crate::specs::MapText::segment_told, crate::specs::Forms::rank, crate::specs::Forms::follows))]
+#[tactic(auto, unfolding(crate::specs::MapText::section_told, crate::specs::MapText::segment_told, crate::specs::Forms::rank, crate::specs::Forms::row_of, crate::specs::Forms::follows))]
 fn behind_other(line: usize, form: Form, text: &[u8]) -> Option<&[u8]>
     ensures { IfSome result (λ rest. Tells line form text.now rest.now [] []) }
 {

@@ -1,5 +1,5 @@
--- A report is read as its own sections and segments.
-use Rattle.std.proofs.Common.{◌≡◌, ℕ, zero, suc, ◌+◌, ◌<◌, ◌≤◌, Bool, true, false, List, [], ◌∷◌, ◌++◌, Option, Some, None, Result, Ok, length, get_or, map, refl, sym, ap, ◌∙◌, arith}
+-- A report says its layout's own sections and segments.
+use Rattle.std.proofs.Common.{◌≡◌, ℕ, zero, suc, ◌+◌, ◌<◌, ◌≤◌, Bool, true, false, List, [], ◌∷◌, ◌++◌, Option, Some, None, length, get_or, map, refl, sym, ap, ◌∙◌, arith}
 use Rattle.std.specs.Prelude.{◌==◌, if◌then◌else◌, slice_get, slice_index}
 use Rattle.std.specs.List.{enumerate_from, flat_map}
 use Rattle.std.proofs.lemmas.Bool.Decides.{nat_tests}
@@ -9,17 +9,15 @@ use Rattle.lk_map.specs.declared.forms.Form.{Form}
 use Rattle.lk_map.specs.declared.forms.Form.TheVariants as form
 use Rattle.lk_map.specs.declared.map_text.SectionLine.{SectionLine}
 use Rattle.lk_map.specs.declared.map_text.SegmentLine.{SegmentLine}
-use Rattle.lk_map.specs.Forms.{rank}
+use Rattle.lk_map.specs.Forms.{rank, row_of}
 use Rattle.lk_map.specs.Lines.{Line}
-use Rattle.lk_map.specs.MapText.{section_at, sections_of, segment_at, segments_of, told_map, section_told as section_in, segment_told as segment_in}
-use Rattle.lk_map.specs.Written.{ReadsMaps}
+use Rattle.lk_map.specs.MapText.{section_at, section_told as section_in, sections_of, segment_at, segment_told as segment_in, segments_of}
 use Rattle.lk_link.specs.declared.link.LinkInput.{LinkInput}
 use Rattle.lk_link.specs.declared.plan.PlanSection.{PlanSection}
 use Rattle.lk_expressions.specs.Records.{Record, nowhere, record_at}
 use Rattle.lk_place.specs.declared.segments.SegmentLayout.{SegmentLayout}
 use Rattle.lk_layout.specs.LayoutRecord.{LayoutRecord}
 use Rattle.lk_layout.specs.Layouts.{resolved_entry}
-use Rattle.lk_report.specs.Report.{report}
 use Rattle.lk_report_maps.specs.ToldLines.{all_parts_say, all_sections_say, AreShort, each_line, entry_told, inner_lines, laid_out_says, section_says, section_told, segment_told, told_lines}
 use Rattle.lk_report_maps.specs.Laws.{first_segment_line, IsWhole, map_section, map_sections, map_segment, map_segments, ReportsAreRead}
 use Rattle.lk_report_maps.proofs.Told.{entry_shaped, goes_on, inner_shaped, last_lines, Shaped, ShapedFrom, text_is}
@@ -53,7 +51,7 @@ free_from k r [] h s = tt
 free_from k r (b ∷ bs) h (here, more) = free_both r b (flat_map (λ ls. ls) bs) (free_of k r b (differ k r h) here) (free_from (suc k) r bs (omega arith) more)
 
 free_last : (r : ℕ) → r < 11 → (link : LinkInput) (layout : LayoutRecord) → Free r (last_lines link layout)
-unfolding Free rank
+unfolding Free rank row_of
 free_last r h link layout =
     (ap (λ n. n == r) (entry_shaped (resolved_entry layout)).0 ∙ differ 11 r h, (differ 12 r (omega arith), tt))
 
@@ -89,7 +87,7 @@ skip_segments n (x ∷ xs) rest (other, h) =
     ∙ ap (λ m. segments_of m rest) same
 
 segments_each : (n k : ℕ) (gs : List SegmentLayout) → segments_of (n + k) (map segment_told gs) ≡ map (λ q. map_segment (n + q.0) q.1.sizes) (enumerate_from k gs)
-unfolding segments_of segment_in rank
+unfolding segments_of segment_in rank row_of
 segments_each n k [] = refl
 segments_each n k (g ∷ gs) =
     let same : n + k + 1 ≡ n + (k + 1) = omega arith in
@@ -111,7 +109,7 @@ module _ (layout : LayoutRecord) (count : ℕ) (records : length layout.section_
       ∙ ap (λ a. section_says s (Some (record_at layout.section_layouts s)) (Some (get_or layout.output_section_indexes s None)) a) (slice_get-get_or layout.section_attributes s 0 (omega arith))
 
   sections_each : (n : ℕ) (xs : List PlanSection) → n + length xs ≤ count → sections_of (n + 2) (each_line (λ s _. laid_out_says layout s) n xs) ≡ map (λ q. map_section layout q.0) (enumerate_from n xs)
-  unfolding sections_of section_in rank each_line section_line_of
+  unfolding sections_of section_in rank row_of each_line section_line_of
   sections_each n [] h = refl
   sections_each n (x ∷ xs) h =
       let same : n + 2 + 1 ≡ suc n + 2 = omega arith in
@@ -165,11 +163,11 @@ module _ (link : LinkInput) (layout : LayoutRecord) (whole : IsWhole link layout
   behind_free r h = free_both r others (last_lines link layout) (free_from 4 r (drop_one (drop_one (drop_one (inner_lines link layout)))) h (inner_shaped link layout).1.1.1) (free_last r (omega arith) link layout)
 
   sections_first : sections_of 1 (told_lines link layout) ≡ sections_of 2 (flat_map (λ ls. ls) (inner_lines link layout) ++ last_lines link layout)
-  unfolding sections_of section_in rank
+  unfolding sections_of section_in rank row_of
   sections_first = refl
 
   segments_first : segments_of 1 (told_lines link layout) ≡ segments_of 2 (flat_map (λ ls. ls) (inner_lines link layout) ++ last_lines link layout)
-  unfolding segments_of segment_in rank
+  unfolding segments_of segment_in rank row_of
   segments_first = refl
 
   no_sections : Free 1 (of_parts ++ (of_segments ++ (others ++ last_lines link layout)))
@@ -203,11 +201,9 @@ module _ (link : LinkInput) (layout : LayoutRecord) (whole : IsWhole link layout
       ∙ ap (λ n. segments_of n of_segments) line_is
       ∙ segments_each (first_segment_line link layout) 0 layout.segment_layouts
 
-both_are : {x y : List SectionLine} {u v : List SegmentLine} → x ≡ y → u ≡ v → ◌≡◌ {A = Result (List SectionLine × List SegmentLine) ℕ} (Ok (x, u)) (Ok (y, v))
+both_are : {x y : List SectionLine} {u v : List SegmentLine} → x ≡ y → u ≡ v → ◌≡◌ {A = List SectionLine × List SegmentLine} (x, u) (y, v)
 both_are p q = cc
 
-pub reports_are_read : ReadsMaps → ReportsAreRead
-unfolding told_map
-reports_are_read reads link layout short whole =
-    ap told_map ((reads (report link layout) (told_lines link layout)).1 (goes_on link layout short, text_is link layout))
-    ∙ both_are (read_sections link layout whole) (read_segments link layout whole)
+pub reports_are_read : ReportsAreRead
+reports_are_read link layout short whole =
+    (told_lines link layout, (goes_on link layout short, text_is link layout), sym (both_are (read_sections link layout whole) (read_segments link layout whole)))

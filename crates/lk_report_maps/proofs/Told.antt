@@ -11,7 +11,7 @@ use Rattle.lk_map.specs.declared.forms.Field.{Field}
 use Rattle.lk_map.specs.declared.forms.Field.TheVariants as is
 use Rattle.lk_map.specs.declared.forms.Form.{Form}
 use Rattle.lk_map.specs.declared.forms.Form.TheVariants as form
-use Rattle.lk_map.specs.Forms.{fields_of, follows, is_end, least_behind, most_behind, rank, word_text}
+use Rattle.lk_map.specs.Forms.{fields_of, follows, rank, row_of, word_text}
 use Rattle.lk_map.specs.Lines.{Line}
 use Rattle.lk_map.specs.Written.{CanStand, GoOn, IsMap, line_text, StandAt, value_text, words_for}
 use Rattle.lk_link.specs.Inputs.{Input}
@@ -88,7 +88,7 @@ range_onto r t = joined_onto (range_pieces r) t
 -- ---- each kind of line is a line of its form
 
 section_is : (s : ℕ) (r : Record) (index : Option ℕ) (attrs : ℕ) → section_line s r index attrs ≡ feed (section_told s r index attrs)
-unfolding section_line onto ended fields_of words_for word_text value_text
+unfolding section_line onto ended fields_of row_of words_for word_text value_text
 section_is s r None attrs =
     ap (λ z. codes "section " ++ (decimal s ++ (codes " index " ++ (codes "-" ++ (codes " " ++ z)))))
     (range_onto r (codes " lma 0x" ++ (hexadecimal r.lma_offset ++ (codes " attrs " ++ (decimal attrs ++ codes "\n")))))
@@ -99,35 +99,35 @@ section_is s r (Some index) attrs =
     ∙ told_is (section_told s r (Some index) attrs)
 
 part_is : (p : ℕ) (r : Record) → part_line p r ≡ feed (part_told p r)
-unfolding part_line onto ended fields_of words_for word_text value_text
+unfolding part_line onto ended fields_of row_of words_for word_text value_text
 part_is p r = ap (λ z. codes "part " ++ (decimal p ++ (codes " " ++ z))) (range_onto r (codes "\n")) ∙ told_is (part_told p r)
 
 segment_is : (g : SegmentLayout) → segment_line g ≡ feed (segment_told g)
-unfolding segment_line onto ended fields_of words_for word_text value_text
+unfolding segment_line onto ended fields_of row_of words_for word_text value_text
 segment_is g = ap (λ z. codes "segment " ++ (decimal g.id ++ (codes " " ++ z))) (range_onto g.sizes (codes "\n")) ∙ told_is (segment_told g)
 
 live_is : (l : LiveSection) → live_line l ≡ feed (live_told l)
-unfolding live_line ended fields_of words_for word_text value_text
+unfolding live_line ended fields_of row_of words_for word_text value_text
 live_is l = told_is (live_told l)
 
 single_is : (index : ℕ) (x : Input) → single_line index x ≡ feed (single_told index x)
-unfolding single_line ended fields_of words_for word_text value_text
+unfolding single_line ended fields_of row_of words_for word_text value_text
 single_is index x = told_is (single_told index x)
 
 merged_is : (s start : ℕ) (inputs : List MergeInput) → merged_line s start inputs ≡ feed (merged_told s start inputs)
-unfolding merged_line ended fields_of words_for word_text value_text
+unfolding merged_line ended fields_of row_of words_for word_text value_text
 merged_is s start inputs = told_is (merged_told s start inputs)
 
 piece_is : (s address len : ℕ) → piece_line s address len ≡ feed (piece_told s address len)
-unfolding piece_line ended fields_of words_for word_text value_text
+unfolding piece_line ended fields_of row_of words_for word_text value_text
 piece_is s address len = told_is (piece_told s address len)
 
 block_is : (b : ℕ) (id : FileId) → block_line b id ≡ feed (block_told b id)
-unfolding block_line ended fields_of words_for word_text value_text
+unfolding block_line ended fields_of row_of words_for word_text value_text
 block_is b id = told_is (block_told b id)
 
 thunk_is : (b s : ℕ) (address : Option ℕ) → thunk_line b s address ≡ feed (thunk_told b s address)
-unfolding thunk_line ended fields_of words_for word_text value_text
+unfolding thunk_line ended fields_of row_of words_for word_text value_text
 thunk_is b s None = told_is (thunk_told b s None)
 thunk_is b s (Some a) = told_is (thunk_told b s (Some a))
 
@@ -148,7 +148,7 @@ symbol_with s r got plt dyn =
     (codes " plt " ++ (plt ++ (codes " dyn " ++ (dyn ++ codes "\n")))))))))))
 
 symbol_is : (s : ℕ) (r : Resolution) → symbol_line s r ≡ feed (symbol_told s r)
-unfolding symbol_line symbol_with ended fields_of words_for word_text value_text
+unfolding symbol_line symbol_with ended fields_of row_of words_for word_text value_text
 symbol_is s r =
     ap (λ t. symbol_with s r t (address_text r.plt) (index_text r.dynamic)) (same_address r.got)
     ∙ ap (λ t. symbol_with s r (value_text is.AddressOrNone r.got) t (index_text r.dynamic)) (same_address r.plt)
@@ -156,7 +156,7 @@ symbol_is s r =
     ∙ told_is (symbol_told s r)
 
 entry_is : (e : Result (Option ℕ) EntryFault) → entry_line e ≡ feed (entry_told e)
-unfolding entry_line entry_told ended fields_of words_for word_text value_text
+unfolding entry_line entry_told ended fields_of row_of words_for word_text value_text
 entry_is (Ok None) = told_is (entry_told (Ok None))
 entry_is (Ok (Some a)) = told_is (entry_told (Ok (Some a)))
 entry_is (Err NotLoaded) = told_is (entry_told (Err NotLoaded))
@@ -279,11 +279,11 @@ module _ (link : LinkInput) (layout : LayoutRecord) where
   last_lines = entry_told (resolved_entry layout) ∷ record { form = form.End; values = [] } ∷ []
 
   last_are : entry_line (resolved_entry layout) ++ codes "end\n" ≡ fed last_lines
-  unfolding fields_of words_for word_text
+  unfolding fields_of row_of words_for word_text
   last_are = ap (λ t. t ++ codes "end\n") (entry_is (resolved_entry layout))
 
   first_is : codes "layout\n" ≡ feed (record { form = form.Layout; values = [] })
-  unfolding fields_of words_for word_text
+  unfolding fields_of row_of words_for word_text
   first_is = refl
 
   pub text_is : report link layout ≡ fed (told_lines link layout)
@@ -371,52 +371,52 @@ shaped_if r true l h k = (h, k, tt)
 shaped_if r false l h k = tt
 
 section_shaped : (s : ℕ) (r : Option Record) (index : Option (Option ℕ)) (attrs : Option ℕ) → Shaped 1 (section_says s r index attrs)
-unfolding section_says Shaped rank fields_of fits
+unfolding section_says Shaped rank fields_of row_of fits
 section_shaped s None index attrs = tt
 section_shaped s (Some r) None attrs = tt
 section_shaped s (Some r) (Some index) None = tt
 section_shaped s (Some r) (Some index) (Some attrs) = (refl, refl, tt)
 
 part_shaped : (is_empty : Bool) (first p : ℕ) (r : Record) → Shaped 2 (part_says is_empty first p r)
-unfolding part_says rank fields_of fits
+unfolding part_says rank fields_of row_of fits
 part_shaped is_empty first p r = shaped_if 2 (takes_memory r || (is_empty && p == first)) (part_told p r) refl refl
 
 segment_shaped : (g : SegmentLayout) → (rank (segment_told g).form ≡ 3) × (fits (fields_of (segment_told g).form) (segment_told g).values ≡ true)
-unfolding rank fields_of fits
+unfolding rank fields_of row_of fits
 segment_shaped g = (refl, refl)
 
 live_shaped : (l : LiveSection) → (rank (live_told l).form ≡ 4) × (fits (fields_of (live_told l).form) (live_told l).values ≡ true)
-unfolding rank fields_of fits
+unfolding rank fields_of row_of fits
 live_shaped l = (refl, refl)
 
 single_shaped : (index : ℕ) (x : Input) → Shaped 5 (single_told index x ∷ [])
-unfolding Shaped rank fields_of fits
+unfolding Shaped rank fields_of row_of fits
 single_shaped index x = (refl, refl, tt)
 
 merged_shaped : (starts : List ℕ) (s : ℕ) (inputs : List MergeInput) → Shaped 6 (merged_says starts s inputs)
-unfolding merged_says rank fields_of fits
+unfolding merged_says rank fields_of row_of fits
 merged_shaped starts s inputs = shaped_if 6 (not (length inputs == 0)) (merged_told s (image_start starts s) inputs) refl refl
 
 pieces_shaped : (s start : ℕ) (pieces : List Piece) → Shaped 7 (pieces_say s start pieces)
-unfolding rank fields_of fits
+unfolding rank fields_of row_of fits
 pieces_shaped s start pieces = shaped_map 7 (λ p. piece_told s (bytes_behind start (image_place fnv64 pieces p)) (length p)) (λ p. (refl, refl)) (image_pieces fnv64 pieces)
 
 block_shaped : (b : ℕ) (owner : Option FileId) → Shaped 8 (block_says b owner)
-unfolding block_says Shaped rank fields_of fits
+unfolding block_says Shaped rank fields_of row_of fits
 block_shaped b None = tt
 block_shaped b (Some id) = (refl, refl, tt)
 
 thunk_shaped : (b s : ℕ) (address : Option ℕ) → Shaped 9 (thunk_told b s address ∷ [])
-unfolding Shaped rank fields_of fits
+unfolding Shaped rank fields_of row_of fits
 thunk_shaped b s address = (refl, refl, tt)
 
 symbol_shaped : (s : ℕ) (r : Option Resolution) → Shaped 10 (symbol_says s r)
-unfolding symbol_says Shaped rank fields_of fits
+unfolding symbol_says Shaped rank fields_of row_of fits
 symbol_shaped s None = tt
 symbol_shaped s (Some r) = (refl, refl, tt)
 
 pub entry_shaped : (e : Result (Option ℕ) EntryFault) → (rank (entry_told e).form ≡ 11) × (fits (fields_of (entry_told e).form) (entry_told e).values ≡ true)
-unfolding entry_told rank fields_of fits
+unfolding entry_told rank fields_of row_of fits
 entry_shaped (Ok address) = (refl, refl)
 entry_shaped (Err NotLoaded) = (refl, refl)
 entry_shaped (Err NotAnAddress) = (refl, refl)
@@ -492,19 +492,15 @@ unfolding follows
 follows_end f g is last = grind (arith, nat_tests)
 
 end_rank : rank form.End ≡ 12
-unfolding rank
+unfolding rank row_of
 end_rank = refl
 
-end_is : is_end (Some form.End) ≡ true
-unfolding is_end rank
-end_is = refl
-
 layout_first : follows None form.Layout ≡ true
-unfolding follows rank
+unfolding follows rank row_of
 layout_first = refl
 
 layout_low : rank form.Layout < 1
-unfolding rank
+unfolding rank row_of
 layout_low = omega arith
 
 rest_short : (l : Line) (ls : List Line) → AreShort (l ∷ ls) → AreShort ls
@@ -535,17 +531,17 @@ blocks_on r (b ∷ bs) rest f (here, shaped) low all short below next =
 
 module _ (link : LinkInput) (layout : LayoutRecord) where
   last_on : (g : Form) → rank g ≤ 10 → AreShort (last_lines link layout) → GoOn (Some g) (last_lines link layout)
-  unfolding GoOn StandAt fields_of
+  unfolding GoOn StandAt fields_of row_of
   last_on g below short =
       let entry = entry_told (resolved_entry layout) in
       let (is, fit) = entry_shaped (resolved_entry layout) in (
         follows_entry g entry.form is below,
         stand_from (fields_of entry.form) entry.values fit (first_short entry (record { form = form.End; values = [] } ∷ []) short),
-        (follows_end entry.form form.End is end_rank, tt, end_is),
+        (follows_end entry.form form.End is end_rank, tt, refl),
       )
 
   pub goes_on : AreShort (told_lines link layout) → GoOn None (told_lines link layout)
-  unfolding GoOn StandAt fields_of
+  unfolding GoOn StandAt fields_of row_of
   goes_on short = (
     layout_first,
     tt,

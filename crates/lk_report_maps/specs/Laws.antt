@@ -1,10 +1,9 @@
--- Laws: a report is a map, and is read as its own sections and segments.
+-- Laws: a report is a map, and says its layout's own sections and segments.
 use Rattle.std.specs.Prelude.{◌≡◌, ℕ, ◌+◌, List, map, Ok, length, slice_index}
 use Rattle.std.specs.List.{enumerate_from}
 use Rattle.lk_map.specs.declared.map_text.SectionLine.{SectionLine}
 use Rattle.lk_map.specs.declared.map_text.SegmentLine.{SegmentLine}
-use Rattle.lk_map.specs.MapText.{map_of}
-use Rattle.lk_map.specs.Written.{IsMap}
+use Rattle.lk_map.specs.Written.{IsMap, TextSays}
 use Rattle.lk_link.specs.declared.link.LinkInput.{LinkInput}
 use Rattle.lk_expressions.specs.Records.{Record, record_at}
 use Rattle.lk_layout.specs.Defined.{IsDefined}
@@ -54,10 +53,10 @@ first_segment_line link layout = length link.plan.sections + length (all_parts_s
 abbrev pub map_segments : LinkInput → LayoutRecord → List SegmentLine
 map_segments link layout = map (λ q. map_segment (first_segment_line link layout + q.0) q.1.sizes) (enumerate_from 0 layout.segment_layouts)
 
--- the report of a whole layout is read as its own sections and segments, each in its line
+-- the report of a whole layout says the layout's own sections and segments, each in its line
 abbrev pub ReportsAreRead : Type 0
 ReportsAreRead = (link : LinkInput) (layout : LayoutRecord) → AreShort (told_lines link layout) → IsWhole link layout
-    → map_of (report link layout) ≡ Ok (map_sections link layout, map_segments link layout)
+    → TextSays (report link layout) (Ok (map_sections link layout, map_segments link layout))
 
 -- ---- defined layouts
 
@@ -65,7 +64,7 @@ ReportsAreRead = (link : LinkInput) (layout : LayoutRecord) → AreShort (told_l
 abbrev pub DefinedLayoutsAreWhole : Type 0
 DefinedLayoutsAreWhole = (machine : Machine) (link : LinkInput) (layout : LayoutRecord) → IsLawfulMachine machine → IsDefined machine link (Ok layout) → IsWhole link layout
 
--- so its report is read as its own sections and segments
+-- so its report says the layout's own sections and segments
 abbrev pub DefinedReportsAreRead : Type 0
 DefinedReportsAreRead = (machine : Machine) (link : LinkInput) (layout : LayoutRecord) → IsLawfulMachine machine → IsDefined machine link (Ok layout)
-    → AreShort (told_lines link layout) → map_of (report link layout) ≡ Ok (map_sections link layout, map_segments link layout)
+    → AreShort (told_lines link layout) → TextSays (report link layout) (Ok (map_sections link layout, map_segments link layout))

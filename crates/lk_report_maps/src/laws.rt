@@ -4,7 +4,6 @@ ghost use Rattle.lk_report_maps.specs.GoodReports.{PlainReportsAreGood};
 ghost use Rattle.lk_report_maps.specs.Laws.{DefinedLayoutsAreWhole, DefinedReportsAreRead, ReportsAreMaps, ReportsAreRead};
 
 use lk_layout::laws::laid_out_links_are_well_formed;
-use lk_map::laws::reads_maps;
 use lk_place_laws::section_ranges::{
     file_sections_are_apart, plain_memory_sections_are_apart, sections_fit,
 };
@@ -17,12 +16,10 @@ pub fn reports_are_maps()
     ensures { ReportsAreMaps }
 {}
 
-/// A law: the report of a whole layout is read as its own sections and segments, each in its line.
+/// A law: the report of a whole layout says the layout's own sections and segments, each in its line.
 pub fn reports_are_read()
     ensures { ReportsAreRead }
-{
-    reads_maps();
-}
+{}
 
 /// A law: every defined layout is whole, on a lawful machine.
 pub fn defined_layouts_are_whole()
@@ -31,7 +28,7 @@ pub fn defined_layouts_are_whole()
     defined_layouts_are_sound();
 }
 
-/// A law: so the report of a defined layout is read as its own sections and segments.
+/// A law: so the report of a defined layout says the layout's own sections and segments.
 pub fn defined_reports_are_read()
     ensures { DefinedReportsAreRead }
 {

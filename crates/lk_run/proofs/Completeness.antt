@@ -20,9 +20,11 @@ use Rattle.lk_link.specs.WellFormed.{IsWellFormed}
 use Rattle.lk_map.specs.declared.check.MapFault.{MapFault}
 use Rattle.lk_map.specs.declared.map_text.SectionLine.{SectionLine}
 use Rattle.lk_map.specs.declared.map_text.SegmentLine.{SegmentLine}
-use Rattle.lk_map.specs.MapText.{map_of}
+use Rattle.lk_map.specs.Checking.{IsVerdict}
 use Rattle.lk_map.specs.Good.{IsGood}
-use Rattle.lk_map.specs.Verdicts.{IsVerdict, MapsAreJudged, MapsRise, VerdictsAgree, VerdictsTellGood}
+use Rattle.lk_map.specs.Reading.{map_of, TextsAreRead}
+use Rattle.lk_map.specs.Verdicts.{MapsAreJudged, MapsRise, VerdictsAgree, VerdictsTellGood}
+use Rattle.lk_map.specs.Written.{TextSays}
 use Rattle.lk_reach.specs.declared.units.Unit.{Unit as LinkUnit}
 use Rattle.lk_reach.specs.declared.units.Unit.TheVariants.{Sec}
 use Rattle.lk_reach.specs.Laws.{MarksAreReached}
@@ -59,6 +61,7 @@ pub record AnswersExist : Type 0 where
   pub unfaulted : WellFormedExactlyUnfaulted
   pub marks : MarksAreReached
   pub shown : ReachedIsShown
+  pub texts : TextsAreRead
   pub rises : MapsRise
   pub verdicts : MapsAreJudged
 
@@ -67,6 +70,7 @@ pub record AnswersAreOne : Type 0 where
   pub layouts : DefinedAnswerIsOne
   pub unfaulted : WellFormedExactlyUnfaulted
   pub shown : ShownIsOne
+  pub texts : TextsAreRead
   pub verdicts : VerdictsAgree
 
 -- ---- there is an answer
@@ -100,11 +104,17 @@ why_answer : AnswersExist → (file : FileId) (index : ℕ) (link : LinkInput) (
 why_answer law file index link None is = section_answer law link file index ((law.unfaulted link).1 is) (has_unit link (Sec file index)) refl
 why_answer law file index link (Some fault) is = (refused (link_fault_text fault ++ codes "\n"), refl)
 
-map_answer : AnswersExist → (text : List ℕ) (said : Result (List SectionLine × List SegmentLine) ℕ) → map_of text ≡ said → (answer : Answer) × IsMapAnswer said answer
-map_answer law text (Ok map) is =
-    let found = law.verdicts map.0 map.1 (law.rises text map.0 map.1 is) in
+map_answer : AnswersExist → (text : List ℕ) (said : Result (List SectionLine × List SegmentLine) ℕ) → TextSays text said → (answer : Answer) × IsMapAnswer said answer
+map_answer law text (Ok map) says =
+    let found = law.verdicts map.0 map.1 (law.rises text map.0 map.1 says) in
     (judged map.0 map.1 found.0, (found.0, found.1, refl))
-map_answer law text (Err line) is = (unreadable (no_map_text line), refl)
+map_answer law text (Err line) says = (unreadable (no_map_text line), refl)
+
+check_answer : AnswersExist → (text : List ℕ) → (answer : Answer) × IsAnswerOf commands.Check text answer
+check_answer law text =
+    let says = (law.texts text (map_of text)).0 refl in
+    let found = map_answer law text (map_of text) says in
+    (found.0, (map_of text, says, found.1))
 
 -- a case for each command
 command_answer : AnswersExist → (command : Command) (bytes : List ℕ) → (answer : Answer) × IsAnswerOf command bytes answer
@@ -114,7 +124,7 @@ command_answer law (commands.Layout workers) bytes =
 command_answer law (commands.Gen seed size) bytes = defined_answer law (λ link layout. done (summary seed size layout)) (generated_link seed size)
 command_answer law (commands.Why file index) bytes =
     reading_answer (IsWhyAnswer file index) (λ link. why_answer law file index link (first_fault link) refl) (reading_of bytes)
-command_answer law commands.Check bytes = map_answer law bytes (map_of bytes) refl
+command_answer law commands.Check bytes = check_answer law bytes
 command_answer law (commands.Image workers) bytes = reading_answer (TellsDefined image_told) (defined_answer law image_told) (reading_of bytes)
 
 held_answer : AnswersExist → (command : Command) (held : Held) → (answer : Answer) × IsAnswerTo command held answer
@@ -161,6 +171,15 @@ one_of_map : AnswersAreOne → (said : Result (List SectionLine × List SegmentL
 one_of_map law (Ok map) a b p q = p.2 ∙ ap (judged map.0 map.1) (law.verdicts map.0 map.1 p.0 q.0 p.1 q.1) ∙ sym q.2
 one_of_map law (Err line) a b p q = p ∙ sym q
 
+-- a text says one thing
+said_is_one : TextsAreRead → (text : List ℕ) (said other : Result (List SectionLine × List SegmentLine) ℕ) → TextSays text said → TextSays text other → said ≡ other
+said_is_one law text said other p q = sym ((law text said).1 p) ∙ (law text other).1 q
+
+one_of_check : AnswersAreOne → (text : List ℕ) (a b : Answer) → IsAnswerOf commands.Check text a → IsAnswerOf commands.Check text b → a ≡ b
+one_of_check law text a b p q =
+    let same : p.0 ≡ q.0 = said_is_one law.texts text p.0 q.0 p.1 q.1 in
+    one_of_map law q.0 a b (subst (λ said. IsMapAnswer said a) same p.2) q.2
+
 -- a case for each command
 one_of_command : AnswersAreOne → (command : Command) (bytes : List ℕ) (a b : Answer) → IsAnswerOf command bytes a → IsAnswerOf command bytes b → a ≡ b
 one_of_command law (commands.Layout workers) bytes a b p q =
@@ -169,7 +188,7 @@ one_of_command law (commands.Layout workers) bytes a b p q =
 one_of_command law (commands.Gen seed size) bytes a b p q = one_defined law (λ link layout. done (summary seed size layout)) (generated_link seed size) a b p q
 one_of_command law (commands.Why file index) bytes a b p q =
     one_of_reading (IsWhyAnswer file index) (λ link c d. one_why law file index link (first_fault link) c d refl) (reading_of bytes) a b p q
-one_of_command law commands.Check bytes a b p q = one_of_map law (map_of bytes) a b p q
+one_of_command law commands.Check bytes a b p q = one_of_check law bytes a b p q
 one_of_command law (commands.Image workers) bytes a b p q = one_of_reading (TellsDefined image_told) (one_defined law image_told) (reading_of bytes) a b p q
 
 one_of_held : AnswersAreOne → (command : Command) (held : Held) (a b : Answer) → IsAnswerTo command held a → IsAnswerTo command held b → a ≡ b
@@ -351,19 +370,20 @@ verdict_done : VerdictsTellGood → (sections : List SectionLine) (segments : Li
 verdict_done law sections segments verdict answer good judges is =
     ap (λ (a : Answer). a.status) (is ∙ ap (judged sections segments) ((law sections segments verdict judges).1 good))
 
-check_done : VerdictsTellGood → (bytes : List ℕ) (held : Held) (answer : Answer) → AreGoodMap bytes → Holds (Some bytes) held
+check_done : TextsAreRead → VerdictsTellGood → (bytes : List ℕ) (held : Held) (answer : Answer) → AreGoodMap bytes → Holds (Some bytes) held
     → IsAnswerTo commands.Check held answer → answer.status ≡ Done
-check_done law bytes (Whole b) answer map holds is =
-    let said : map_of b ≡ Ok (map.sections, map.segments) = ap map_of (sym holds.1) ∙ map.read in
-    let answers : IsMapAnswer (Ok (map.sections, map.segments)) answer = subst (λ r. IsMapAnswer r answer) said is in
+check_done texts law bytes (Whole b) answer map holds is =
+    let says : TextSays b (Ok (map.sections, map.segments)) = subst (λ text. TextSays text (Ok (map.sections, map.segments))) holds.1 map.says in
+    let same : is.0 ≡ Ok (map.sections, map.segments) = said_is_one texts b is.0 (Ok (map.sections, map.segments)) is.1 says in
+    let answers : IsMapAnswer (Ok (map.sections, map.segments)) answer = subst (λ said. IsMapAnswer said answer) same is.2 in
     verdict_done law map.sections map.segments answers.0 answer map.good answers.1 answers.2
-check_done law bytes Longer answer map holds is = absurd (omega (arith, map.fits, holds))
+check_done texts law bytes Longer answer map holds is = absurd (omega (arith, map.fits, holds))
 
-pub check_complete : VerdictsTellGood → CheckRunsAreComplete
-check_complete law words bytes from to before after status asked left map run faultless =
+pub check_complete : TextsAreRead → VerdictsTellGood → CheckRunsAreComplete
+check_complete texts law words bytes from to before after status asked left map run faultless =
     completes words from to before after status (λ s finished.
     let given = read_answer words commands.Check from to finished.answer asked refl finished.defined in
-    finished.same ∙ check_done law bytes given.held finished.answer map (subst (λ o. Holds o given.held) left given.holds) given.answers) run faultless
+    finished.same ∙ check_done texts law bytes given.held finished.answer map (subst (λ o. Holds o given.held) left given.holds) given.answers) run faultless
 
 -- ---- a generated link that meets no refusal
 

@@ -15,7 +15,7 @@ use Rattle.lk_link.specs.Texts.{link_fault_text}
 use Rattle.lk_map.specs.declared.check.MapFault.{MapFault}
 use Rattle.lk_map.specs.declared.map_text.SectionLine.{SectionLine}
 use Rattle.lk_map.specs.declared.map_text.SegmentLine.{SegmentLine}
-use Rattle.lk_map.specs.MapText.{map_of}
+use Rattle.lk_map.specs.Written.{TextSays}
 use Rattle.lk_reach.specs.declared.units.Unit.TheVariants.{Sec}
 use Rattle.lk_layout.specs.declared.error.LayoutError.{LayoutError}
 use Rattle.lk_layout.specs.LayoutRecord.{LayoutRecord}
@@ -88,7 +88,7 @@ told_command (commands.Gen seed size) bytes answer is =
     told_defined (λ link layout. done (summary seed size layout)) (generated_link seed size) answer (λ layout. inl refl) is
 told_command (commands.Why file index) bytes answer is =
     told_reading (IsWhyAnswer file index) (reading_of bytes) answer (λ link. told_why file index link (first_fault link) answer) is
-told_command commands.Check bytes answer is = told_map (map_of bytes) answer is
+told_command commands.Check bytes answer is = told_map is.0 answer is.2
 told_command (commands.Image workers) bytes answer is =
     told_reading (TellsDefined image_told) (reading_of bytes) answer (λ link. told_defined image_told link answer (λ layout. told_imaged link layout (image_refusal link layout))) is
 
@@ -137,6 +137,12 @@ pub too_long_answers : {E : Type 0} (made : Result Answer E) (command : Command)
     → IfOk made (λ answer. (any : Command) → IsAnswerTo any Longer answer) → IfOk made (IsMadeFor command (held_by input))
 too_long_answers (Ok answer) command input is given = subst (λ i. IsMadeFor command (held_by i) answer) (sym is) (given command)
 too_long_answers (Err e) command input is given = given
+
+-- what was made for what a text says answers the text
+pub check_answers : {E : Type 0} (made : Result Answer E) (text : List ℕ) (said : Result (List SectionLine × List SegmentLine) ℕ) → TextSays text said
+    → IfOk made (IsMapAnswer said) → IfOk made (IsAnswerOf commands.Check text)
+check_answers (Ok answer) text said says is = (said, says, is)
+check_answers (Err e) text said says is = is
 
 -- what was made for a command answers it
 made_reading : (reading : Result LinkInput InputError) (answer : Answer) → IsAnswerToReading IsMappedAnswer reading answer

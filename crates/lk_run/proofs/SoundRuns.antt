@@ -18,10 +18,12 @@ use Rattle.lk_report.specs.Report.{report}
 use Rattle.lk_report.specs.Summary.{summary}
 use Rattle.lk_soundness.specs.Laws.{DefinedLayoutsAreSound}
 use Rattle.lk_map.specs.declared.check.MapFault.{MapFault}
+use Rattle.lk_map.specs.declared.map_text.SectionLine.{SectionLine}
+use Rattle.lk_map.specs.declared.map_text.SegmentLine.{SegmentLine}
+use Rattle.lk_map.specs.Checking.{IsVerdict}
 use Rattle.lk_map.specs.Lines.{Line}
-use Rattle.lk_map.specs.MapText.{map_lines, sections_of, segments_of, told_map}
-use Rattle.lk_map.specs.Verdicts.{IsVerdict}
-use Rattle.lk_map.specs.Written.{ReadsMaps}
+use Rattle.lk_map.specs.MapText.{sections_of, segments_of}
+use Rattle.lk_map.specs.Written.{IsMap, TextSays}
 use Rattle.lk_map.proofs.Goodness.{judged_tells}
 use Rattle.lk_run.specs.declared.answer.Answer.{Answer}
 use Rattle.lk_run.specs.declared.status.Status.{Status}
@@ -154,49 +156,49 @@ image_run law images words workers from to before after asked run =
 -- ---- maps
 
 -- an answer to the map of lines, with the status of a good one, tells that
-told_good : ReadsMaps → (from : SourceState) (before after : SinkState) (bytes : List ℕ) (lines : List Line) (verdict : Result (Unit {0}) MapFault) (answer : Answer)
-    → Holds from.left (Whole bytes) → map_lines bytes ≡ Ok lines → IsVerdict verdict (sections_of 1 lines) (segments_of 1 lines)
+told_good : (from : SourceState) (before after : SinkState) (bytes : List ℕ) (lines : List Line) (verdict : Result (Unit {0}) MapFault) (answer : Answer)
+    → Holds from.left (Whole bytes) → IsMap bytes lines → IsVerdict verdict (sections_of 1 lines) (segments_of 1 lines)
     → answer ≡ judged (sections_of 1 lines) (segments_of 1 lines) verdict → Done ≡ answer.status → Takes before after answer.bytes → TellsGoodMap from before after
-told_good law from before after bytes lines (Ok u) answer holds read is_verdict is status written = record {
+told_good from before after bytes lines (Ok u) answer holds map is_verdict is status written = record {
   bytes = bytes;
   holds = holds;
   lines = lines;
-  map = (law bytes lines).0 read;
-  good = judged_tells (Ok u) (sections_of 1 lines) (segments_of 1 lines) is_verdict.1;
+  map = map;
+  good = judged_tells (Ok u) (sections_of 1 lines) (segments_of 1 lines) is_verdict;
   written = subst (Takes before after) (ap (λ (a : Answer). a.bytes) is) written;
 }
-told_good law from before after bytes lines (Err fault) answer holds read is_verdict is status written =
+told_good from before after bytes lines (Err fault) answer holds map is_verdict is status written =
     let refused : Done ≡ Refused = status ∙ ap (λ (a : Answer). a.status) is in
     absurd (cc)
 
-told_lines : ReadsMaps → (from : SourceState) (before after : SinkState) (bytes : List ℕ) (said : Result (List Line) ℕ) (answer : Answer)
-    → Holds from.left (Whole bytes) → map_lines bytes ≡ said → IsMapAnswer (told_map said) answer → Done ≡ answer.status → Takes before after answer.bytes
+told_said : (from : SourceState) (before after : SinkState) (bytes : List ℕ) (said : Result (List SectionLine × List SegmentLine) ℕ) (answer : Answer)
+    → Holds from.left (Whole bytes) → TextSays bytes said → IsMapAnswer said answer → Done ≡ answer.status → Takes before after answer.bytes
     → TellsGoodMap from before after
-unfolding told_map
-told_lines law from before after bytes (Ok lines) answer holds read is status written =
-    told_good law from before after bytes lines is.0 answer holds read is.1 is.2 status written
-told_lines law from before after bytes (Err line) answer holds read is status written =
+told_said from before after bytes (Ok told) answer holds (lines, map, same) is status written =
+    let of_lines : IsMapAnswer (Ok (sections_of 1 lines, segments_of 1 lines)) answer = subst (λ both. IsMapAnswer (Ok both) answer) same is in
+    told_good from before after bytes lines of_lines.0 answer holds map of_lines.1 of_lines.2 status written
+told_said from before after bytes (Err line) answer holds says is status written =
     let unreadable : Done ≡ Unreadable = status ∙ ap (λ (a : Answer). a.status) is in
     absurd (cc)
 
-checked_held : ReadsMaps → (from : SourceState) (before after : SinkState) (held : Held) (answer : Answer) → Holds from.left held
+checked_held : (from : SourceState) (before after : SinkState) (held : Held) (answer : Answer) → Holds from.left held
     → IsAnswerTo commands.Check held answer → Done ≡ answer.status → Takes before after answer.bytes → TellsGoodMap from before after
-checked_held law from before after (Whole bytes) answer holds is status written = told_lines law from before after bytes (map_lines bytes) answer holds refl is status written
-checked_held law from before after Longer answer holds is status written =
+checked_held from before after (Whole bytes) answer holds is status written = told_said from before after bytes is.0 answer holds is.1 is.2 status written
+checked_held from before after Longer answer holds is status written =
     let unreadable : Done ≡ Unreadable = status ∙ ap (λ (a : Answer). a.status) is in
     absurd (cc)
 
-check_run : ReadsMaps → (words : List (List ℕ)) (from to : SourceState) (before after : SinkState) → IsCommand words commands.Check
+check_run : (words : List (List ℕ)) (from to : SourceState) (before after : SinkState) → IsCommand words commands.Check
     → Finished words from to before after Done → TellsGoodMap from before after
-check_run law words from to before after asked run =
+check_run words from to before after asked run =
     let given = answered words commands.Check from to run.answer asked run.defined in
-    checked_held law from before after given.held run.answer given.holds given.answers run.same run.written
+    checked_held from before after given.held run.answer given.holds given.answers run.same run.written
 
-pub sound_run : SmallLayoutsAreSound → ImagesAreMade → ReadsMaps → (words : List (List ℕ)) (from to : SourceState) (before after : SinkState) (status : Status) → IsRun words from to before after status
+pub sound_run : SmallLayoutsAreSound → ImagesAreMade → (words : List (List ℕ)) (from to : SourceState) (before after : SinkState) (status : Status) → IsRun words from to before after status
     → IsSoundRun words from before after status
-sound_run law images reads words from to before after status run = record {
+sound_run law images words from to before after status run = record {
   read = λ workers asked laid. read_run law words workers from to before after asked (subst (IsRun words from to before after) laid run);
   generated = λ seed size asked laid. gen_run law words seed size from to before after asked (subst (IsRun words from to before after) laid run);
-  checked = λ asked good. check_run reads words from to before after asked (subst (IsRun words from to before after) good run);
+  checked = λ asked good. check_run words from to before after asked (subst (IsRun words from to before after) good run);
   imaged = λ workers asked done. image_run law images words workers from to before after asked (subst (IsRun words from to before after) done run);
 }

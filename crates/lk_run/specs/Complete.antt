@@ -9,7 +9,7 @@ use Rattle.lk_link.specs.declared.link.LinkInput.{LinkInput}
 use Rattle.lk_map.specs.declared.map_text.SectionLine.{SectionLine}
 use Rattle.lk_map.specs.declared.map_text.SegmentLine.{SegmentLine}
 use Rattle.lk_map.specs.Good.{IsGood}
-use Rattle.lk_map.specs.MapText.{map_of}
+use Rattle.lk_map.specs.Written.{TextSays}
 use Rattle.lk_reach.specs.declared.units.Unit.TheVariants.{Sec}
 use Rattle.lk_image.specs.Refusals.{image_refusal}
 use Rattle.lk_layout.specs.declared.error.LayoutError.{LayoutError}
@@ -109,7 +109,7 @@ pub record AreGoodMap (bytes : List ℕ) : Type 0 where
   pub fits : length bytes ≤ LONGEST_INPUT
   pub sections : List SectionLine
   pub segments : List SegmentLine
-  pub read : map_of bytes ≡ Ok (sections, segments)
+  pub says : TextSays bytes (Ok (sections, segments))
   pub good : IsGood sections segments
 
 -- a run of `check` over such bytes, in which no device failed, found no fault, unless memory ran out

@@ -16,8 +16,8 @@ use Rattle.lk_link.specs.Texts.{link_fault_text}
 use Rattle.lk_map.specs.declared.check.MapFault.{MapFault}
 use Rattle.lk_map.specs.declared.map_text.SectionLine.{SectionLine}
 use Rattle.lk_map.specs.declared.map_text.SegmentLine.{SegmentLine}
-use Rattle.lk_map.specs.MapText.{map_of}
-use Rattle.lk_map.specs.Verdicts.{IsVerdict}
+use Rattle.lk_map.specs.Checking.{IsVerdict}
+use Rattle.lk_map.specs.Written.{TextSays}
 use Rattle.lk_reach.specs.declared.units.Unit.{Unit as LinkUnit}
 use Rattle.lk_reach.specs.declared.units.Unit.TheVariants.{Sec}
 use Rattle.lk_layout.specs.declared.error.LayoutError.{LayoutError}
@@ -113,7 +113,7 @@ abbrev pub IsAnswerOf : Command → List ℕ → Answer → Type 0
 IsAnswerOf (commands.Layout workers) bytes answer = IsAnswerToReading (TellsDefined (λ link layout. done (report link layout))) (reading_of bytes) answer
 IsAnswerOf (commands.Gen seed size) bytes answer = TellsDefined (λ link layout. done (summary seed size layout)) (generated_link seed size) answer
 IsAnswerOf (commands.Why file index) bytes answer = IsAnswerToReading (IsWhyAnswer file index) (reading_of bytes) answer
-IsAnswerOf commands.Check bytes answer = IsMapAnswer (map_of bytes) answer
+IsAnswerOf commands.Check bytes answer = (said : Result (List SectionLine × List SegmentLine) ℕ) × TextSays bytes said × IsMapAnswer said answer
 IsAnswerOf (commands.Image workers) bytes answer = IsAnswerToReading (TellsDefined image_told) (reading_of bytes) answer
 
 -- what a source holds: all its bytes, or more than are read

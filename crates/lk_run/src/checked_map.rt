@@ -2,9 +2,10 @@
 
 ghost use Rattle.std.specs.Prelude.{◌≡◌, ◌≢◌, string_bytes, IfOk};
 ghost use Rattle.lk_map.specs.declared.check.MapFault.TheVariants.{NoMemory};
-ghost use Rattle.lk_map.specs.MapText.{map_of, LinesRise};
+ghost use Rattle.lk_map.specs.MapText.{LinesRise};
 ghost use Rattle.lk_run.specs.MapTexts.{map_fault_text};
-ghost use Rattle.lk_run.specs.Run.{IsMapAnswer};
+ghost use Rattle.lk_run.specs.declared.words.Command.TheVariants as commands;
+ghost use Rattle.lk_run.specs.Run.{IsAnswerOf, IsMapAnswer};
 
 use crate::answer::{Answer, done, refused, unreadable};
 use lk_map::{MapError, MapFault, MapText, check_map, read_map};
@@ -53,7 +54,7 @@ fn answer_no_map(alloc: Global, line: usize) -> Result<Answer, AllocError>
 
 /// The answer of `check` to all bytes of the source. They are let go before the map is checked.
 pub(crate) fn answer_check(alloc: Global, bytes: Vec<u8>) -> Result<Answer, AllocError>
-    ensures { IfOk result (IsMapAnswer (map_of bytes.items)) }
+    ensures { IfOk result (IsAnswerOf commands.Check bytes.items) }
 {
     let read = read_map(alloc, bytes.as_slice());
     drop(bytes);

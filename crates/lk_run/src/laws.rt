@@ -8,7 +8,7 @@ use lk_check::well_formed_exactly_unfaulted;
 use lk_explain::laws::{reached_is_shown, shown_is_one};
 use lk_image::laws::images_are_made;
 use lk_layout::laws::{defined_answer_exists, defined_answer_is_one, small64_machine_is_lawful};
-use lk_map::laws::{maps_are_judged, maps_rise, reads_maps, verdicts_agree, verdicts_tell_good};
+use lk_map::laws::{maps_are_judged, maps_rise, texts_are_read, verdicts_agree, verdicts_tell_good};
 use lk_reach::laws::marks_are_reached;
 use lk_soundness::laws::defined_layouts_are_sound;
 
@@ -20,6 +20,7 @@ pub fn runs_tell_the_answer()
     defined_answer_is_one();
     well_formed_exactly_unfaulted();
     shown_is_one();
+    texts_are_read();
     verdicts_agree();
 }
 
@@ -33,6 +34,7 @@ pub fn runs_tell_one_answer()
     marks_are_reached();
     reached_is_shown();
     shown_is_one();
+    texts_are_read();
     maps_rise();
     maps_are_judged();
     verdicts_agree();
@@ -67,6 +69,7 @@ pub fn why_runs_are_complete()
 pub fn check_runs_are_complete()
     ensures { CheckRunsAreComplete }
 {
+    texts_are_read();
     verdicts_tell_good();
 }
 
@@ -79,7 +82,6 @@ pub fn runs_are_sound()
     defined_layouts_are_sound();
     small64_machine_is_lawful();
     images_are_made();
-    reads_maps();
 }
 
 /// A law: which numbers the constants are that definitions name: how long lists may be, what rules hold numbers to, the bits of attributes

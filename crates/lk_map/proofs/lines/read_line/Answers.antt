@@ -1,5 +1,4 @@
-use Rattle.lk_map.specs.Forms.{forms}
-use Rattle.lk_map.specs.Lines.{words_of}
+use Rattle.lk_map.specs.Reading.{forms, words_of}
 use Rattle.lk_map.specs.Values.{shown}
 use Rattle.lk_map.proofs.Among.{form_fits, form_none, form_not}
 use Rattle.lk_map.proofs.lines.read_line.Goals as goal

@@ -1,5 +1,5 @@
 use Rattle.std.proofs.Common.{◌≡◌, drop}
-use Rattle.lk_map.specs.Lines.{line_among, line_of, words_of}
+use Rattle.lk_map.specs.Reading.{line_among, line_of, words_of}
 use Rattle.lk_map.proofs.lines.read_line.Given as goal
 
 abbrev pub invariant-loop-form : goal.invariant-loop-form

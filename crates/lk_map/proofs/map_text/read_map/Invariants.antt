@@ -1,5 +1,6 @@
 use Rattle.std.proofs.Common.{◌≡◌, ◌+◌, ◌≤◌, length}
-use Rattle.lk_map.specs.MapText.{lines_from, map_of, parts_of}
+use Rattle.lk_map.specs.Reading.{lines_from, map_of}
+use Rattle.lk_map.specs.Written.{parts_of}
 use Rattle.lk_map.proofs.Reading.{told_by}
 use Rattle.lk_map.proofs.map_text.read_map.Given as goal
 

@@ -1,7 +1,8 @@
 use Rattle.std.proofs.Common.{sym}
 use Rattle.lk_map.specs.declared.map_text.SectionLine.{SectionLine}
-use Rattle.lk_map.specs.Spans.{counts_in_file, file_span}
+use Rattle.lk_map.specs.Spans.{counts_in_file}
 use Rattle.lk_map.proofs.Following.{follow_all, follow_first, follow_more, follow_same}
+use Rattle.lk_map.proofs.Goodness.{file_span}
 use Rattle.lk_map.proofs.spans.follow_in_file.Goals as goal
 use Rattle.lk_map.proofs.spans.follow_in_file.Goals.{then-counts_in_file_of+in-Some, else-counts_in_file_of}
 

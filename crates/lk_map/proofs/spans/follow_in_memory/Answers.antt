@@ -1,7 +1,8 @@
 use Rattle.std.proofs.Common.{sym}
 use Rattle.lk_map.specs.declared.map_text.SectionLine.{SectionLine}
-use Rattle.lk_map.specs.Spans.{counts_in_memory, memory_span}
+use Rattle.lk_map.specs.Spans.{counts_in_memory}
 use Rattle.lk_map.proofs.Following.{follow_all, follow_first, follow_more, follow_same}
+use Rattle.lk_map.proofs.Goodness.{memory_span}
 use Rattle.lk_map.proofs.spans.follow_in_memory.Goals as goal
 use Rattle.lk_map.proofs.spans.follow_in_memory.Goals.{then-counts_in_memory_of+in-Some, else-counts_in_memory_of}
 

@@ -1,5 +1,6 @@
 use Rattle.std.proofs.Common.{refl, sym, ◌∙◌, subst}
-use Rattle.lk_map.specs.Spans.{counts_in_memory, memory_span, FindsOverlap, LinesRiseIn}
+use Rattle.lk_map.specs.Spans.{counts_in_memory, FindsOverlap, LinesRiseIn}
+use Rattle.lk_map.proofs.Goodness.{memory_span}
 use Rattle.lk_map.proofs.Overlaps.{spans_rise}
 use Rattle.lk_map.proofs.spans.overlap_in_memory.Goals as goal
 

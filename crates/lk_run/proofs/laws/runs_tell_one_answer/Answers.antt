@@ -9,6 +9,7 @@ returns c =
       unfaulted = unfaulted;
       marks = c.marks_are_reached.ensures;
       shown = c.reached_is_shown.ensures;
+      texts = c.texts_are_read.ensures;
       rises = c.maps_rise.ensures;
       verdicts = c.maps_are_judged.ensures;
     } in
@@ -16,6 +17,7 @@ returns c =
       layouts = c.defined_answer_is_one.ensures;
       unfaulted = unfaulted;
       shown = c.shown_is_one.ensures;
+      texts = c.texts_are_read.ensures;
       verdicts = c.verdicts_agree.ensures;
     } in
     runs_tell exist are_one

@@ -6,5 +6,6 @@ returns c = runs_tell_the_answer (record {
   layouts = c.defined_answer_is_one.ensures;
   unfaulted = c.well_formed_exactly_unfaulted.ensures;
   shown = c.shown_is_one.ensures;
+  texts = c.texts_are_read.ensures;
   verdicts = c.verdicts_agree.ensures;
 })

@@ -1,7 +1,7 @@
 use Rattle.std.proofs.Common.{◌≡◌, ◌≤◌, drop}
 use Rattle.std.specs.Prelude.{option_copied}
 use Rattle.lk_map.specs.Cutting.{parts_left}
-use Rattle.lk_map.specs.Lines.{behind, values_of, words_of}
+use Rattle.lk_map.specs.Reading.{behind, values_of, words_of}
 use Rattle.lk_map.specs.Values.{shown}
 use Rattle.lk_map.proofs.lines.Values.take_all.Given as goal
 
