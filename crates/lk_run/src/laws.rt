@@ -8,7 +8,9 @@ use lk_check::well_formed_exactly_unfaulted;
 use lk_explain::laws::{reached_is_shown, shown_is_one};
 use lk_image::laws::images_are_made;
 use lk_layout::laws::{defined_answer_exists, defined_answer_is_one, small64_machine_is_lawful};
-use lk_map::laws::{maps_are_judged, maps_rise, texts_are_read, verdicts_agree, verdicts_tell_good};
+use lk_map::laws::{
+    maps_are_judged, maps_rise, texts_are_read, verdicts_agree, verdicts_tell_good,
+};
 use lk_reach::laws::marks_are_reached;
 use lk_soundness::laws::defined_layouts_are_sound;
 
