@@ -69,7 +69,7 @@ use std::thread::Threads;
 /// How deep lists and objects may nest in a JSON text.
 const MAX_DEPTH: usize = 127;
 
-/// How many bytes a piece has at least that is read by itself.
+/// How many bytes a piece has that is read by itself, a few less or more.
 const PIECE: usize = 1 << 20;
 
 /// A key of the description.
@@ -212,7 +212,7 @@ pub fn read_link(alloc: Global, bytes: &[u8]) -> Result<LinkInput, InputError>
     read_link_in_pieces(alloc, bytes, PIECE)
 }
 
-/// The same, read in pieces of at least `size` bytes where that is possible: reading then takes memory for a piece beside the text and
+/// The same, read in pieces of some `size` bytes or more where that is possible: reading then takes memory for a piece beside the text and
 /// what is read of it, not for another text.
 pub fn read_link_in_pieces(
     alloc: Global,
@@ -239,7 +239,7 @@ pub fn read_link_by_workers<R: Threads + Sync>(
     read_link_in_pieces_by_workers(rt, alloc, bytes, workers, PIECE)
 }
 
-/// The same, where each worker reads pieces of at least `size` bytes.
+/// The same, where each worker reads pieces of some `size` bytes or more.
 pub fn read_link_in_pieces_by_workers<R: Threads + Sync>(
     rt: &R,
     alloc: Global,

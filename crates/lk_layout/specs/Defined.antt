@@ -23,7 +23,7 @@ use Rattle.lk_sizes.specs.Addresses.{section_addresses}
 use Rattle.lk_sizes.specs.Harvest.{sorted_sections}
 use Rattle.lk_sizes.specs.Header.{header_info}
 use Rattle.lk_tables.specs.Singletons.{partial_link_plan}
-use Rattle.lk_relax.specs.Scan.{Standing}
+use Rattle.lk_relax.specs.Scan.{PassState}
 use Rattle.lk_relax.specs.Sites.{past_limit}
 use Rattle.lk_relax.specs.Stages.{IsRelaxed, Stage, refusal_of, standing_at}
 use Rattle.lk_layout.specs.declared.error.LayoutError.{LayoutError}
@@ -79,7 +79,7 @@ abbrev pub walk_refusal : Made → Option LayoutError
 walk_refusal made = option_map place_error (refusal_of (made_relaxing made) made.stage)
 
 -- how all stands at last
-abbrev pub made_standing : Made → Standing
+abbrev pub made_standing : Made → PassState
 made_standing made = standing_at (made_relaxing made) made.stage
 
 -- the first candidate whose bytes are gone though its symbol is too far from where they stood, by final addresses

@@ -80,7 +80,8 @@ pub fn matrix_merges()
     ensures { MatrixMerges }
 {}
 
-/// A law: what cells answer to strings and to buckets that come to them, and what buckets make of a group, are steps of that matrix.
+/// A law: what cells answer to strings and to buckets that come to them, and what buckets make of a group, are steps of that matrix,
+/// but for a group at which a bucket stops, since its piece doesn't fit.
 pub fn calls_are_steps<J>()
     ensures { CallsAreSteps J }
 {}

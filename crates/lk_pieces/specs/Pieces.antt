@@ -23,7 +23,7 @@ abbrev pub tokens_of : List (List ℕ) → List Token
 tokens_of [] = []
 tokens_of (p ∷ ps) = tokens p ++ tokens_of ps
 
--- each begins with a value and ends behind one
+-- each is UTF-8, begins with a value and ends behind one
 unfoldable pub ArePieces : List (List ℕ) → Type 0
 ArePieces [] = ⊤
 ArePieces (p ∷ ps) = (IsUtf8 p × Begins (tokens p) × (left_at fresh (tokens p) ≡ Some after_value)) × ArePieces ps

@@ -18,7 +18,7 @@ use Rattle.lk_place.specs.declared.cursors.Cursors.{Cursors}
 use Rattle.lk_place.specs.declared.error.Refusal.{Refusal}
 use Rattle.lk_place.specs.Placement.{IsPlacedBefore, event_refusal, known_before, state_at}
 use Rattle.lk_place.specs.InRegions.{goes_on_by, places_in, placing_in, span_of}
-use Rattle.lk_place.specs.PlacedBefore.{Known, Standing, is_placing, is_placing_part, last_before, lies_in, standing_before}
+use Rattle.lk_place.specs.PlacedBefore.{Known, PlacedRecords, is_placing, is_placing_part, last_before, lies_in, standing_before}
 use Rattle.lk_expressions.specs.Records.{Record, nowhere, record_at}
 use Rattle.lk_place.specs.Segments.{hull, part_records}
 use Rattle.lk_place.specs.Setting.{IsReady, Setting, part_count, part_number}
@@ -113,7 +113,7 @@ standing_alike setting k r r' ready each each' alike =
       | true ↦ λ is. ap (λ (x : Record). Some x) (alike p (part_placed setting k p is))
       | false ↦ λ is. refl
     ] refl) in
-    let of : (ℕ → Option Record) → (ℕ → Option Record) → Standing = λ f g. record { section = f; part = g } in
+    let of : (ℕ → Option Record) → (ℕ → Option Record) → PlacedRecords = λ f g. record { section = f; part = g } in
     ap (λ f. of f (part r)) same_section ∙ ap (of (section r')) same_part
 
 -- ---- what the walk knows
@@ -149,7 +149,7 @@ went_alike setting memory (suc k) r same =
     ∙ ap (λ (m : ℕ). if hit then m else goes_on_by setting memory k r) (same (suc k) (omega arith))
     ∙ ap (λ (m : ℕ). if hit then (cursors_after setting (suc k)).memory else m) (went_alike setting memory k r (λ j le. same j (omega arith)))
 
-abbrev known_of : Setting → ℕ → Standing → (ℕ → ℕ) → Known
+abbrev known_of : Setting → ℕ → PlacedRecords → (ℕ → ℕ) → Known
 known_of setting k standing goes_on = record { standing = standing; last = last_before setting.plan.events k; goes_on = goes_on }
 
 -- states and records that agree with those of the walk up to event k tell what the walk knows

@@ -17,7 +17,7 @@ use Rattle.lk_place.specs.declared.cursors.Cursors.{Cursors}
 use Rattle.lk_place.specs.declared.cursors.Offsets.{Offsets}
 use Rattle.lk_place.specs.declared.error.Refusal.{Refusal}
 use Rattle.lk_place.specs.InRegions.{past_region, stands_in}
-use Rattle.lk_place.specs.PlacedBefore.{Standing, is_placing, is_placing_part, lies_in, standing_before}
+use Rattle.lk_place.specs.PlacedBefore.{PlacedRecords, is_placing, is_placing_part, lies_in, standing_before}
 use Rattle.lk_place.specs.Placement.{IsPlacedBefore, either_refusal, load_by, load_given, load_refusal, placing_refusal, record_by, records_by, section_left, section_refusal, section_start, standing_with}
 use Rattle.lk_expressions.specs.Records.{Record, nowhere, record_at}
 use Rattle.lk_place.specs.Segments.{hull, part_records}
@@ -85,9 +85,9 @@ standing_behind setting k s begin old new ready here each_old each_new writes =
     let sections : List PlanSection = setting.plan.sections in
     let events : List OrderEvent = setting.plan.events in
     let below : s < length sections = section_there setting k s ready here in
-    let before : Standing = standing_before setting.plan new k in
-    let after : Standing = standing_before setting.plan new (k + 1) in
-    let added : Standing = standing_with setting before s begin in
+    let before : PlacedRecords = standing_before setting.plan new k in
+    let after : PlacedRecords = standing_before setting.plan new (k + 1) in
+    let added : PlacedRecords = standing_with setting before s begin in
     let more : (f : OrderEvent → Bool) → list_any f (take (k + 1) events) ≡ (list_any f (take k events) || f (Section s))
     = λ f. ap (λ (n : ℕ). list_any f (take n events)) (add-one k) ∙ any_next f events k (Section s) here in
     let spans : ℕ → Option Record = λ t. Some (hull (part_records sections new t)) in
@@ -100,10 +100,10 @@ standing_behind setting k s begin old new ready here each_old each_new writes =
     ap (λ (b : Bool). cond b (Some (record_at new p)) None) (more (is_placing_part sections p))
     ∙ told_with (list_any (is_placing_part sections p) (take k events)) lies (Some (record_at new p)) (Some (record_by setting s begin p))
     (λ hit. ap (λ (r : Record). Some r) (writes p ∙ ap (λ (b : Bool). cond b (record_by setting s begin p) (record_at old p)) hit))) in
-    let of : (ℕ → Option Record) → (ℕ → Option Record) → Standing = λ f g. record { section = f; part = g } in
+    let of : (ℕ → Option Record) → (ℕ → Option Record) → PlacedRecords = λ f g. record { section = f; part = g } in
     ap (λ f. of f after.part) section
     ∙ ap (of added.section) part
-    ∙ ap (λ (x : Standing). standing_with setting x s begin) (standing_alike setting k new old ready each_new each_old (λ p h. left_alone setting k s p begin old new ready here writes h))
+    ∙ ap (λ (x : PlacedRecords). standing_with setting x s begin) (standing_alike setting k new old ready each_new each_old (λ p h. left_alone setting k s p begin old new ready here writes h))
 
 -- ---- the load address
 
@@ -114,7 +114,7 @@ pub load_known : (setting : Setting) (k s : ℕ) (from left : Cursors) (old new 
     → load_by setting s (standing_before setting.plan new (k + 1)) left (section_at setting.plan.sections s).at ≡ load_given setting (standing_before setting.plan old k) s from
 load_known setting k s from left old new ready here each_old each_new writes is =
     let at : Option Term = (section_at setting.plan.sections s).at in
-    ap (λ (x : Standing). load_by setting s x left at) (standing_behind setting k s (section_start setting s from) old new ready here each_old each_new writes)
+    ap (λ (x : PlacedRecords). load_by setting s x left at) (standing_behind setting k s (section_start setting s from) old new ready here each_old each_new writes)
     ∙ ap (λ (c : Cursors). load_by setting s (standing_with setting (standing_before setting.plan old k) s (section_start setting s from)) c at) is
 
 -- a section that is placed isn't refused for its parts, and leaves these cursors
@@ -145,7 +145,7 @@ loads_passed None (Err x) l c left none h is = absurd (cc)
 loads_passed None (Ok m) l c left none h is = ap (λ (d : Cursors). Ok d) is
 
 -- its parts are written, and loaded
-pub loads_written : (setting : Setting) (standing : Standing) (s : ℕ) (from : Cursors) (load : Option ℕ) (old mid new : List Record) → Ok load ≡ load_given setting standing s from
+pub loads_written : (setting : Setting) (standing : PlacedRecords) (s : ℕ) (from : Cursors) (load : Option ℕ) (old mid new : List Record) → Ok load ≡ load_given setting standing s from
     → Rewrites (all_written setting s (section_start setting s from)) old mid → Rewrites (all_loaded setting s load) mid new → Rewrites (rewritten setting standing (Some s) from) old new
 unfolding rewritten
 loads_written setting standing s from load old mid new given writes loads p =
@@ -154,7 +154,7 @@ loads_written setting standing s from load old mid new given writes loads p =
     ∙ ap (λ (l : Option ℕ). all_loaded setting s l p (all_written setting s (section_start setting s from) p (record_at old p))) (ap load_or_none given)
 
 -- then its region refuses it, or goes on behind it
-pub region_left : (setting : Setting) (standing : Standing) (s : ℕ) (from x : Cursors) (r : Result Cursors Refusal) → Ok x ≡ unless (placing_refusal setting standing s from) (section_left setting s from)
+pub region_left : (setting : Setting) (standing : PlacedRecords) (s : ℕ) (from x : Cursors) (r : Result Cursors Refusal) → Ok x ≡ unless (placing_refusal setting standing s from) (section_left setting s from)
     → r ≡ unless (past_region setting (stands_in setting.plan s) x.memory) x → r ≡ unless (section_refusal setting standing (Some s) from) (left_behind setting (Some s) from)
 unfolding left_behind
 region_left setting standing s from x r placed left =

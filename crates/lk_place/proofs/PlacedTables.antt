@@ -21,7 +21,7 @@ use Rattle.lk_place.specs.declared.cursors.Cursors.{Cursors}
 use Rattle.lk_expressions.specs.Expressions.{Valued, expression_value}
 use Rattle.lk_expressions.specs.Named.{names_no_symbol, names_none}
 use Rattle.lk_place.specs.AtHand.{AreAtHand}
-use Rattle.lk_place.specs.PlacedBefore.{Standing, dot_of, early_known, early_value, is_placing, is_placing_part, standing_before, lies_in}
+use Rattle.lk_place.specs.PlacedBefore.{PlacedRecords, dot_of, early_known, early_value, is_placing, is_placing_part, standing_before, lies_in}
 use Rattle.lk_place.specs.Ranges.{HasPart}
 use Rattle.lk_expressions.specs.Records.{Record, nowhere, record_at}
 use Rattle.lk_place.specs.Regions.{given_regions, regions_of}
@@ -175,7 +175,7 @@ pub value_known : (setting : Setting) (table : List ℕ) (records : List Record)
     })) e
     → r ≡ early_value setting (standing_before setting.plan records n) from e
 value_known setting table records n from e dot groups regions constants r ready at each same_dot same_groups same_regions hand spoken gives =
-    let known : Standing = standing_before setting.plan records n in
+    let known : PlacedRecords = standing_before setting.plan records n in
     let all : ℕ → List (List InputFile) → List (ℕ × ℕ) → List (Option Valued) → (ℕ → Option Record) → (ℕ → Option Record) → Early
     = λ d gs rs cs section part. record { groups = gs; dot = d; headers = setting.headers; regions = rs; constants = cs; section = section; part = part; positions = setting.positions } in
     let section : section_before setting.plan.sections table records n ≡ known.section = fun_ext (λ s. sections_tell setting table records n s ready at each) in

@@ -9,7 +9,7 @@ use Rattle.lk_link.specs.Inside.{placed_section}
 use Rattle.lk_link.specs.Parts.{first_part}
 use Rattle.lk_place.specs.declared.cursors.Cursors.{Cursors}
 use Rattle.lk_place.specs.declared.cursors.Offsets.{Offsets}
-use Rattle.lk_place.specs.PlacedBefore.{Standing}
+use Rattle.lk_place.specs.PlacedBefore.{PlacedRecords}
 use Rattle.lk_place.specs.Placement.{IsPlaced, known_before, Places, PlacesSection, CarriesOut, reached, section_start, state_at}
 use Rattle.lk_expressions.specs.Records.{Record, file_end}
 use Rattle.lk_place.specs.Setting.{Setting, part_count}
@@ -44,7 +44,7 @@ section_in_file setting s entered to records h =
     let ends : to.file ≡ end.file = ap (λ (c : Cursors). c.file) h.leaves in
     subst (λ n. FollowInFile setting records s entered.file n) (sym ends) (section_follows (λ r. r.file_offset) file_end (λ c. c.file) file_ranges setting s entered to records h)
 
-places_in_file : (setting : Setting) (standing : Standing) (o : Option ℕ) (entered to : Cursors) (records : List Record) → Places setting standing o entered records to → entered.file ≤ to.file
+places_in_file : (setting : Setting) (standing : PlacedRecords) (o : Option ℕ) (entered to : Cursors) (records : List Record) → Places setting standing o entered records to → entered.file ≤ to.file
 places_in_file setting standing None entered to records h = omega (arith, ap (λ (c : Cursors). c.file) h)
 places_in_file setting standing (Some s) entered to records h =
     follow-le (λ r. r.file_offset) file_end records (first_part setting.plan.sections s) (part_count setting.plan.sections s) entered.file to.file (section_in_file setting s entered to records h.placed)

@@ -17,7 +17,7 @@ use Rattle.lk_place.specs.declared.error.Refusal.{Refusal}
 use Rattle.lk_place.specs.Placement.{IsPlaced, known_before, IsPlacedBefore, Passes, Places, PlacesLoaded, CarriesOut, either_refusal, event_refusal, first_refusal, load_given, load_refusal, moved, numbered, placement_refusal, placing_refusal, record_by, refusal_behind, refusal_behind_move, refusal_of, section_left, section_overflow, section_refusal, section_start, state_at, step_refusal}
 use Rattle.lk_place.specs.InRegions.{past_region, stands_in}
 use Rattle.lk_place.specs.PlacementLaws.{PlacementExists, PlacementIsOne}
-use Rattle.lk_place.specs.PlacedBefore.{Known, Standing}
+use Rattle.lk_place.specs.PlacedBefore.{Known, PlacedRecords}
 use Rattle.lk_expressions.specs.Records.{Record, nowhere, record_at}
 use Rattle.lk_place.specs.Setting.{IsReady, Setting, part_count, part_number}
 use Rattle.lk_place.specs.Start.{BeginsAt, no_cursors, start}
@@ -63,7 +63,7 @@ unnumbered k None h = refl
 unnumbered k (Some r) h = absurd (cc)
 
 -- its move isn't refused
-move_given : (setting : Setting) (standing : Standing) (s : Option ℕ) (from : Cursors) (o : Result Cursors Refusal) → refusal_behind_move setting standing s o ≡ None → o ≡ Ok (after_move from o)
+move_given : (setting : Setting) (standing : PlacedRecords) (s : Option ℕ) (from : Cursors) (o : Result Cursors Refusal) → refusal_behind_move setting standing s o ≡ None → o ≡ Ok (after_move from o)
 move_given setting standing s from (Ok c) h = refl
 move_given setting standing s from (Err r) h = absurd (cc)
 
@@ -80,18 +80,18 @@ load_passes (Ok load) h = refl
 load_passes (Err r) h = absurd (cc)
 
 -- the load address of its section isn't refused either
-load_there : (setting : Setting) (standing : Standing) (s : ℕ) (c : Cursors) → section_refusal setting standing (Some s) c ≡ None → load_given setting standing s c ≡ Ok (load_of setting standing s c)
+load_there : (setting : Setting) (standing : PlacedRecords) (s : ℕ) (c : Cursors) → section_refusal setting standing (Some s) c ≡ None → load_given setting standing s c ≡ Ok (load_of setting standing s c)
 load_there setting standing s c h =
     let placing : placing_refusal setting standing s c ≡ None = first_none (placing_refusal setting standing s c) (past_region setting (stands_in setting.plan s) (section_left setting s c).memory) h in
     load_passes (load_given setting standing s c) (later_none (section_overflow setting s c) (load_refusal (load_given setting standing s c)) placing)
 
 -- these records are those that the walk computes for the parts of a section
-abbrev AreWalked : Setting → Standing → ℕ → Cursors → List Record → Type 0
+abbrev AreWalked : Setting → PlacedRecords → ℕ → Cursors → List Record → Type 0
 AreWalked setting standing s c records = (j : ℕ) → j < part_count setting.plan.sections s
     → record_at records (part_number setting.plan.sections s j) ≡ loaded_record setting standing s c (part_number setting.plan.sections s j)
 
 -- what it places, in words of the walk
-event_places : (setting : Setting) (standing : Standing) (e : OrderEvent) (c : Cursors) (records : List Record) (to : Cursors) → IsReady setting
+event_places : (setting : Setting) (standing : PlacedRecords) (e : OrderEvent) (c : Cursors) (records : List Record) (to : Cursors) → IsReady setting
     → to ≡ left_behind setting (placed_section e) c
     → section_refusal setting standing (placed_section e) c ≡ None
     → ((s : ℕ) → e ≡ Section s → s < length setting.plan.sections)
@@ -271,7 +271,7 @@ placement_exists setting ready =
 -- ---- it is one
 
 -- what an event that places nothing or a section leaves
-event_makes : (setting : Setting) (standing : Standing) (e : OrderEvent) (c : Cursors) (records : List Record) (to : Cursors) → IsReady setting → ((s : ℕ) → e ≡ Section s → s < length setting.plan.sections)
+event_makes : (setting : Setting) (standing : PlacedRecords) (e : OrderEvent) (c : Cursors) (records : List Record) (to : Cursors) → IsReady setting → ((s : ℕ) → e ≡ Section s → s < length setting.plan.sections)
     → Places setting standing (placed_section e) c records to → to ≡ left_behind setting (placed_section e) c
 unfolding left_behind
 event_makes setting standing (SegmentStart i) c records to ready there places = places

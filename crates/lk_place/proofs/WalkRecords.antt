@@ -10,7 +10,7 @@ use Rattle.lk_link.specs.Parts.{all_parts, first_part}
 use Rattle.lk_link.proofs.PartNumbers.{first_part-suc, parts_end-le}
 use Rattle.lk_place.specs.declared.cursors.Cursors.{Cursors}
 use Rattle.lk_place.specs.Placement.{IsPlacedBefore, record_by, section_start}
-use Rattle.lk_place.specs.PlacedBefore.{Known, Standing, lies_in}
+use Rattle.lk_place.specs.PlacedBefore.{Known, PlacedRecords, lies_in}
 use Rattle.lk_place.specs.Ranges.{HasPart}
 use Rattle.lk_expressions.specs.Records.{Record, nowhere}
 use Rattle.lk_place.specs.Setting.{IsReady, Setting, part_count, part_number}
@@ -55,7 +55,7 @@ among_other setting s t j below there other less =
 -- ---- one event
 
 -- the computed record of part p of a section, loaded from the section's load address
-abbrev pub loaded_record : Setting → Standing → ℕ → Cursors → ℕ → Record
+abbrev pub loaded_record : Setting → PlacedRecords → ℕ → Cursors → ℕ → Record
 loaded_record setting standing s from p = loaded_by (load_of setting standing s from) (record_by setting s (section_start setting s from) p)
 
 -- an event that places section s makes the records of its parts

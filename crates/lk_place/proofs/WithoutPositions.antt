@@ -21,7 +21,7 @@ use Rattle.lk_place.specs.Answers.{IsRefused}
 use Rattle.lk_expressions.specs.Expressions.{Valued, expression_value}
 use Rattle.lk_expressions.specs.Named.{loads_by_none, moves_by_none, names_no_symbol, names_none}
 use Rattle.lk_place.specs.Locations.{awaiting, behind_start}
-use Rattle.lk_place.specs.PlacedBefore.{Known, Standing, dot_of, early_known, early_value, refusing}
+use Rattle.lk_place.specs.PlacedBefore.{Known, PlacedRecords, dot_of, early_known, early_value, refusing}
 use Rattle.lk_place.specs.Placement.{CarriesOut, IsPlaced, IsPlacedBefore, Passes, Places, PlacesSection, either_refusal, first_refusal, known_before, load_by, load_given, load_refusal, loading, moved, numbered, placement_refusal, refusal_behind_move, refusal_of, section_left, section_overflow, section_refusal, section_start, standing_with, state_at, step_refusal}
 use Rattle.lk_place.specs.InRegions.{past_region, stands_in}
 use Rattle.lk_expressions.specs.Records.{Record}
@@ -51,11 +51,11 @@ values_alike known positions e none = unnamed_read_no_symbols.early known known.
 abbrev LoadWithoutSymbols : Setting → Type 0
 LoadWithoutSymbols setting = (s : ℕ) → loads_by_none (section_at setting.plan.sections s) ≡ true
 
-early_alike : (setting : Setting) (positions : List (Option SymbolPosition)) (standing : Standing) (from : Cursors) (e : Term) → names_none e ≡ true
+early_alike : (setting : Setting) (positions : List (Option SymbolPosition)) (standing : PlacedRecords) (from : Cursors) (e : Term) → names_none e ≡ true
     → early_value (with_positions setting positions) standing from e ≡ early_value setting standing from e
 early_alike setting positions standing from e none = values_alike (early_known setting standing (dot_of from)) positions e none
 
-given_alike : (setting : Setting) (positions : List (Option SymbolPosition)) (s : ℕ) (standing : Standing) (behind : Cursors) (section : PlanSection) → loads_by_none section ≡ true
+given_alike : (setting : Setting) (positions : List (Option SymbolPosition)) (s : ℕ) (standing : PlacedRecords) (behind : Cursors) (section : PlanSection) → loads_by_none section ≡ true
     → load_by (with_positions setting positions) s standing behind section.at ≡ load_by setting s standing behind section.at
 given_alike setting positions s standing behind section none =
     elim section.at as (λ e. loads_by_none (record section { at = e }) ≡ true → load_by (with_positions setting positions) s standing behind e ≡ load_by setting s standing behind e) [
@@ -63,7 +63,7 @@ given_alike setting positions s standing behind section none =
       | Some e ↦ λ h. ap (loading s) (early_alike setting positions standing behind e h)
     ] none
 
-load_alike : (setting : Setting) (positions : List (Option SymbolPosition)) (standing : Standing) (s : ℕ) (from : Cursors) → LoadWithoutSymbols setting
+load_alike : (setting : Setting) (positions : List (Option SymbolPosition)) (standing : PlacedRecords) (s : ℕ) (from : Cursors) → LoadWithoutSymbols setting
     → load_given (with_positions setting positions) standing s from ≡ load_given setting standing s from
 load_alike setting positions standing s from loads =
     given_alike setting positions s (standing_with setting standing s (section_start setting s from)) (section_left setting s from) (section_at setting.plan.sections s) (loads s)
@@ -80,14 +80,14 @@ moved_alike setting positions known (SetLocationRelative x s) from none =
 moved_alike setting positions known (SetSectionAddress x) from none =
     ap (λ (v : Valued). awaiting from (refusing v)) (early_alike setting positions known.standing from x none)
 
-section_alike : (setting : Setting) (positions : List (Option SymbolPosition)) (standing : Standing) (s : Option ℕ) (from : Cursors) → LoadWithoutSymbols setting
+section_alike : (setting : Setting) (positions : List (Option SymbolPosition)) (standing : PlacedRecords) (s : Option ℕ) (from : Cursors) → LoadWithoutSymbols setting
     → section_refusal (with_positions setting positions) standing s from ≡ section_refusal setting standing s from
 section_alike setting positions standing None from loads = refl
 section_alike setting positions standing (Some s) from loads =
     ap (λ (load : Result (Option ℕ) Refusal). either_refusal (either_refusal (section_overflow setting s from) (load_refusal load)) (past_region setting (stands_in setting.plan s) (section_left setting s from).memory))
     (load_alike setting positions standing s from loads)
 
-behind_alike : (setting : Setting) (positions : List (Option SymbolPosition)) (standing : Standing) (s : Option ℕ) (r : Result Cursors Refusal) → LoadWithoutSymbols setting
+behind_alike : (setting : Setting) (positions : List (Option SymbolPosition)) (standing : PlacedRecords) (s : Option ℕ) (r : Result Cursors Refusal) → LoadWithoutSymbols setting
     → refusal_behind_move (with_positions setting positions) standing s r ≡ refusal_behind_move setting standing s r
 behind_alike setting positions standing s (Ok entered) loads = section_alike setting positions standing s entered loads
 behind_alike setting positions standing s (Err refusal) loads = refl
@@ -106,7 +106,7 @@ at_alike setting positions known k None from loads none = refl
 at_alike setting positions known k (Some e) from loads none = event_alike setting positions known k e from loads (none e refl)
 
 -- and places what it places
-places_alike : (setting : Setting) (positions : List (Option SymbolPosition)) (standing : Standing) (s : Option ℕ) (from : Cursors) (records : List Record) (to : Cursors) → LoadWithoutSymbols setting
+places_alike : (setting : Setting) (positions : List (Option SymbolPosition)) (standing : PlacedRecords) (s : Option ℕ) (from : Cursors) (records : List Record) (to : Cursors) → LoadWithoutSymbols setting
     → Places setting standing s from records to → Places (with_positions setting positions) standing s from records to
 places_alike setting positions standing None from records to loads h = h
 places_alike setting positions standing (Some s) from records to loads h =

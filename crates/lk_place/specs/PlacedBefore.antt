@@ -34,12 +34,12 @@ abbrev pub is_placing_part : List PlanSection → ℕ → OrderEvent → Bool
 is_placing_part sections p e = option_map_or (λ t. lies_in (first_part sections t) (part_count sections t) p) (placed_section e) false
 
 -- by their numbers, what sections span and the records of parts, of those that are placed
-pub record Standing : Type 0 where
+pub record PlacedRecords : Type 0 where
   pub section : ℕ → Option Record
   pub part : ℕ → Option Record
 
 -- what stands before event n: what the events before it place, by the records of all parts
-abbrev pub standing_before : Plan → List Record → ℕ → Standing
+abbrev pub standing_before : Plan → List Record → ℕ → PlacedRecords
 standing_before plan records n = record {
   section = λ s. if list_any (is_placing s) (take n plan.events) then Some (hull (part_records plan.sections records s)) else None;
   part = λ p. if list_any (is_placing_part plan.sections p) (take n plan.events) then Some (record_at records p) else None;
@@ -51,7 +51,7 @@ last_before events n = last_or None (filter_map placed_section (take n events))
 
 -- what is known at an event: what stands, the section that was placed last, and where each region goes on
 pub record Known : Type 0 where
-  pub standing : Standing
+  pub standing : PlacedRecords
   pub last : Option ℕ
   pub goes_on : ℕ → ℕ
 
@@ -62,7 +62,7 @@ abbrev pub dot_of : Cursors → ℕ
 dot_of c = unwrap_or c.pending c.memory
 
 -- what an operand may speak of while sections are placed
-abbrev pub early_known : Setting → Standing → ℕ → Early
+abbrev pub early_known : Setting → PlacedRecords → ℕ → Early
 early_known setting standing dot = record {
   groups = setting.groups;
   dot = dot;
@@ -75,7 +75,7 @@ early_known setting standing dot = record {
 }
 
 -- the value of an expression at these cursors
-abbrev pub early_value : Setting → Standing → Cursors → Term → Valued
+abbrev pub early_value : Setting → PlacedRecords → Cursors → Term → Valued
 early_value setting standing from e = expression_value (early_operand (early_known setting standing (dot_of from))) e
 
 -- a value, or the refusal of an expression that has none
@@ -84,5 +84,5 @@ refusing (Ok n) = Ok n
 refusing (Err cause) = Err (NoValue cause)
 
 -- the value of an expression at these cursors, or the refusal
-abbrev pub value_at : Setting → Standing → Cursors → Term → Result ℕ Refusal
+abbrev pub value_at : Setting → PlacedRecords → Cursors → Term → Result ℕ Refusal
 value_at setting standing from e = refusing (early_value setting standing from e)

@@ -23,7 +23,7 @@ use Rattle.lk_place.specs.Alignments.{numbered_parts, place_alignment, section_a
 use Rattle.lk_expressions.specs.Expressions.{Valued, ◌>>=◌}
 use Rattle.lk_place.specs.InRegions.{goes_on_by, in_region, inside_region, past_region, stands_in}
 use Rattle.lk_place.specs.Locations.{awaiting, behind_start, opened_at, taken}
-use Rattle.lk_place.specs.PlacedBefore.{Known, Standing, early_value, last_before, lies_in, standing_before, value_at}
+use Rattle.lk_place.specs.PlacedBefore.{Known, PlacedRecords, early_value, last_before, lies_in, standing_before, value_at}
 use Rattle.lk_expressions.specs.Records.{Record, file_end, mem_end, nowhere, record_at}
 use Rattle.lk_place.specs.Segments.{hull}
 use Rattle.lk_place.specs.Setting.{Setting, has_bytes, of_parts, part_count, part_number, size_at, takes_addresses}
@@ -181,7 +181,7 @@ records_by setting s begin = map (λ q. record_by setting s begin q.0) (numbered
 -- ---- where a section is loaded from
 
 -- what stands behind a section whose parts begin here: it and its parts, and what stood before it
-abbrev pub standing_with : Setting → Standing → ℕ → Offsets → Standing
+abbrev pub standing_with : Setting → PlacedRecords → ℕ → Offsets → PlacedRecords
 standing_with setting standing s begin = record {
   section = λ t. if s == t then Some (hull (records_by setting s begin)) else standing.section t;
   part = λ p.
@@ -195,13 +195,13 @@ loading s (Ok n) = Ok (Some n)
 loading s (Err cause) = Err (NoLoadAddress s cause)
 
 -- the load address that an expression gives a section, by what stands and the cursors behind it; a section without one has none
-abbrev pub load_by : Setting → ℕ → Standing → Cursors → Option Term → Result (Option ℕ) Refusal
+abbrev pub load_by : Setting → ℕ → PlacedRecords → Cursors → Option Term → Result (Option ℕ) Refusal
 load_by setting s standing behind None = Ok None
 load_by setting s standing behind (Some e) = loading s (early_value setting standing behind e)
 
 -- the load address of a section that is placed from the cursors on, if it names one: the value of its expression behind its last part,
 -- which may speak of the section itself
-abbrev pub load_given : Setting → Standing → ℕ → Cursors → Result (Option ℕ) Refusal
+abbrev pub load_given : Setting → PlacedRecords → ℕ → Cursors → Result (Option ℕ) Refusal
 load_given setting standing s from =
     load_by setting s (standing_with setting standing s (section_start setting s from)) (section_left setting s from) (section_at setting.plan.sections s).at
 
@@ -212,14 +212,14 @@ AreLoaded setting s load records = (j : ℕ) → j < part_count setting.plan.sec
     ≡ unwrap_or load (record_at records (part_number setting.plan.sections s j)).mem_offset
 
 -- a section is placed, and loaded
-pub record PlacesLoaded (setting : Setting) (standing : Standing) (s : ℕ) (from : Cursors) (records : List Record) (to : Cursors) : Type 0 where
+pub record PlacesLoaded (setting : Setting) (standing : PlacedRecords) (s : ℕ) (from : Cursors) (records : List Record) (to : Cursors) : Type 0 where
   pub placed : PlacesSection setting s from records to
   pub load : Option ℕ
   pub given : load_given setting standing s from ≡ Ok load
   pub loaded : AreLoaded setting s load records
 
 -- an event that places no section leaves the cursors as they are
-abbrev pub Places : Setting → Standing → Option ℕ → Cursors → List Record → Cursors → Type 0
+abbrev pub Places : Setting → PlacedRecords → Option ℕ → Cursors → List Record → Cursors → Type 0
 Places setting standing None from records to = to ≡ from
 Places setting standing (Some s) from records to = PlacesLoaded setting standing s from records to
 
@@ -285,17 +285,17 @@ load_refusal (Ok load) = None
 load_refusal (Err refusal) = Some refusal
 
 -- why a section can't be placed from the cursors on, and loaded: its parts would end past 2^64 - 1, or its load address has no value
-abbrev pub placing_refusal : Setting → Standing → ℕ → Cursors → Option Refusal
+abbrev pub placing_refusal : Setting → PlacedRecords → ℕ → Cursors → Option Refusal
 placing_refusal setting standing s from = either_refusal (section_overflow setting s from) (load_refusal (load_given setting standing s from))
 
 -- why a section is refused: it can't be placed or loaded, or behind it memory would stand past its region
-abbrev pub section_refusal : Setting → Standing → Option ℕ → Cursors → Option Refusal
+abbrev pub section_refusal : Setting → PlacedRecords → Option ℕ → Cursors → Option Refusal
 section_refusal setting standing None from = None
 section_refusal setting standing (Some s) from =
     either_refusal (placing_refusal setting standing s from) (past_region setting (stands_in setting.plan s) (section_left setting s from).memory)
 
 -- the refusal of a move, else that of the section that is placed behind it
-abbrev pub refusal_behind_move : Setting → Standing → Option ℕ → Result Cursors Refusal → Option Refusal
+abbrev pub refusal_behind_move : Setting → PlacedRecords → Option ℕ → Result Cursors Refusal → Option Refusal
 refusal_behind_move setting standing s (Ok entered) = section_refusal setting standing s entered
 refusal_behind_move setting standing s (Err refusal) = Some refusal
 

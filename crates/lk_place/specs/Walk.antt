@@ -23,7 +23,7 @@ use Rattle.lk_place.specs.InRegions.{named_region, places_in, span_of}
 use Rattle.lk_place.specs.AtHand.{AreAtHand}
 use Rattle.lk_place.specs.Placement.{first_record, first_walked, is_below, load_given, moved, next_record, numbered, overflow_at}
 use Rattle.lk_place.specs.Placement.{record_by, refusal_of, section_left, section_start}
-use Rattle.lk_place.specs.PlacedBefore.{Known, Standing, last_before, lies_in, standing_before}
+use Rattle.lk_place.specs.PlacedBefore.{Known, PlacedRecords, last_before, lies_in, standing_before}
 use Rattle.lk_expressions.specs.Records.{Record, nowhere, record_at}
 use Rattle.lk_place.specs.Setting.{IsReady, Setting, part_count, setting_of}
 use Rattle.lk_place.specs.Regions.{given_regions, regions_of}
@@ -119,11 +119,11 @@ load_or_none (Ok load) = load
 load_or_none (Err refusal) = None
 
 -- that of a section that is placed from the cursors on
-abbrev pub load_of : Setting → Standing → ℕ → Cursors → Option ℕ
+abbrev pub load_of : Setting → PlacedRecords → ℕ → Cursors → Option ℕ
 load_of setting standing s from = load_or_none (load_given setting standing s from)
 
 -- what a section makes of it: it is written, and loaded
-unfoldable pub rewritten : Setting → Standing → Option ℕ → Cursors → ℕ → Record → Record
+unfoldable pub rewritten : Setting → PlacedRecords → Option ℕ → Cursors → ℕ → Record → Record
 rewritten setting standing None from p old = old
 rewritten setting standing (Some s) from p old = all_loaded setting s (load_of setting standing s from) p (all_written setting s (section_start setting s from) p old)
 

@@ -14,7 +14,7 @@ use Rattle.lk_link.proofs.PartNumbers.{first_part-suc}
 use Rattle.lk_place.specs.declared.cursors.Cursors.{Cursors}
 use Rattle.lk_place.specs.Alignments.{place_alignment}
 use Rattle.lk_place_laws.specs.Laws.{IsSoundlySet, PlainMemoryIsCongruent}
-use Rattle.lk_place.specs.PlacedBefore.{Known, Standing}
+use Rattle.lk_place.specs.PlacedBefore.{Known, PlacedRecords}
 use Rattle.lk_place.specs.Placement.{known_before, Places, PlacesSection, CarriesOut, moved, state_at}
 use Rattle.lk_place.specs.Plain.{IsLoadSegment, IsPlain, OpensLoad, PlacesInLoad}
 use Rattle.lk_place.specs.Ranges.{HasPart}
@@ -117,7 +117,7 @@ section_agrees setting states records i s k t u n from entered to less there beg
     ]
 
 -- an event that places nothing leaves what its move leaves
-stays_agree : (setting : Setting) (standing : Standing) (place : ℕ) (e : OrderEvent) (o : Option ℕ) (entered to : Cursors) (records : List Record) → placed_section e ≡ o → o ≡ None
+stays_agree : (setting : Setting) (standing : PlacedRecords) (place : ℕ) (e : OrderEvent) (o : Option ℕ) (entered to : Cursors) (records : List Record) → placed_section e ≡ o → o ≡ None
     → FreeAgrees place entered → Places setting standing o entered records to → FreeAgrees place to
 stays_agree setting standing place e (Some s) entered to records named none h places = absurd (cc)
 stays_agree setting standing place e None entered to records named none h places = subst (FreeAgrees place) (sym places) h

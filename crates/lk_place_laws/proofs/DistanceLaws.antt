@@ -21,7 +21,7 @@ use Rattle.lk_place.specs.declared.cursors.Offsets.{Offsets}
 use Rattle.lk_place.specs.Alignments.{place_alignment, section_alignment}
 use Rattle.lk_place_laws.specs.Distance.{HasFileBytesIn, PlainMemoryKeepsDistance}
 use Rattle.lk_place_laws.specs.Laws.{IsSoundlySet}
-use Rattle.lk_place.specs.PlacedBefore.{Known, Standing}
+use Rattle.lk_place.specs.PlacedBefore.{Known, PlacedRecords}
 use Rattle.lk_place.specs.Placement.{IsPlacedAt, Places, PlacesSection, CarriesOut, behind, first_walked, is_walked, known_before, moved, reached, section_start, state_at, walk_alignment}
 use Rattle.lk_place.specs.Plain.{IsPlain, OpensLoad, PlacesInLoad}
 use Rattle.lk_expressions.specs.Records.{Record, file_end, has_file_bytes, mem_end, nowhere, record_at}
@@ -262,7 +262,7 @@ section_as_far setting states records i s k t u n base from entered to less ther
     ]
 
 -- an event that places nothing leaves what its move leaves
-stays_as_far : (setting : Setting) (standing : Standing) (base : Offsets) (o : Option ℕ) (entered to : Cursors) (records : List Record) → o ≡ None
+stays_as_far : (setting : Setting) (standing : PlacedRecords) (base : Offsets) (o : Option ℕ) (entered to : Cursors) (records : List Record) → o ≡ None
     → IsFreeAsFar base entered → Places setting standing o entered records to → IsFreeAsFar base to
 stays_as_far setting standing base (Some s) entered to records none h places = absurd (cc)
 stays_as_far setting standing base None entered to records none h places = subst (IsFreeAsFar base) (sym places) h

@@ -19,7 +19,7 @@ use Rattle.lk_place.specs.declared.cursors.Offsets.{Offsets}
 use Rattle.lk_place.specs.declared.error.Refusal.{Refusal}
 use Rattle.lk_expressions.specs.declared.positions.SymbolPosition.{SymbolPosition}
 use Rattle.lk_expressions.specs.Expressions.{Valued, expression_value}
-use Rattle.lk_place.specs.PlacedBefore.{Standing, dot_of, early_known, early_value, is_placing, is_placing_part, lies_in, standing_before}
+use Rattle.lk_place.specs.PlacedBefore.{PlacedRecords, dot_of, early_known, early_value, is_placing, is_placing_part, lies_in, standing_before}
 use Rattle.lk_place.specs.Placement.{PlacesSection, load_by, loading, record_by, records_by, section_left, section_start, standing_with}
 use Rattle.lk_place_laws.specs.PlacementLaws.{LoadsGoByWhatStands}
 use Rattle.lk_expressions.specs.Records.{Record, file_end, mem_end, nowhere, record_at}
@@ -67,13 +67,13 @@ operand_bare known (operand.Length r) = refl
 operand_bare known operand.SizeOfHeaders = refl
 
 -- what stands, but for where it is loaded
-abbrev bare : Standing → Standing
+abbrev bare : PlacedRecords → PlacedRecords
 bare x = record { section = λ s. option_map unloaded (x.section s); part = λ p. option_map unloaded (x.part p) }
 
-value_bare : (setting : Setting) (x : Standing) (c : Cursors) (e : Term) → early_value setting (bare x) c e ≡ early_value setting x c e
+value_bare : (setting : Setting) (x : PlacedRecords) (c : Cursors) (e : Term) → early_value setting (bare x) c e ≡ early_value setting x c e
 value_bare setting x c e = ap (λ (f : Operand → Valued). expression_value f e) (fun_ext (operand_bare (early_known setting x (dot_of c))))
 
-load_bare : (setting : Setting) (s : ℕ) (x : Standing) (c : Cursors) (e : Option Term) → load_by setting s (bare x) c e ≡ load_by setting s x c e
+load_bare : (setting : Setting) (s : ℕ) (x : PlacedRecords) (c : Cursors) (e : Option Term) → load_by setting s (bare x) c e ≡ load_by setting s x c e
 load_bare setting s x c None = refl
 load_bare setting s x c (Some e) = ap (loading s) (value_bare setting x c e)
 
@@ -112,8 +112,8 @@ parts_unloaded sections records s =
 standing_unloaded : (setting : Setting) (records : List Record) (n : ℕ) → standing_before setting.plan (map unloaded records) n ≡ bare (standing_before setting.plan records n)
 standing_unloaded setting records n =
     let sections : List PlanSection = setting.plan.sections in
-    let before : Standing = standing_before setting.plan (map unloaded records) n in
-    let after : Standing = bare (standing_before setting.plan records n) in
+    let before : PlacedRecords = standing_before setting.plan (map unloaded records) n in
+    let after : PlacedRecords = bare (standing_before setting.plan records n) in
     let section : before.section ≡ after.section = fun_ext (λ s.
     ap (λ (r : Record). cond (list_any (is_placing s) (take n setting.plan.events)) (Some r) None) (ap hull (parts_unloaded sections records s) ∙ hull_unloaded (part_records sections records s))
     ∙ elim (list_any (is_placing s) (take n setting.plan.events)) as (λ b. cond b (Some (unloaded (hull (part_records sections records s)))) None
@@ -127,10 +127,10 @@ standing_unloaded setting records n =
 -- ---- the law
 
 -- but for where something is loaded, what stands with a section goes by what stood, but for that
-with_bare : (setting : Setting) (x : Standing) (s : ℕ) (begin : Offsets) → bare (standing_with setting (bare x) s begin) ≡ bare (standing_with setting x s begin)
+with_bare : (setting : Setting) (x : PlacedRecords) (s : ℕ) (begin : Offsets) → bare (standing_with setting (bare x) s begin) ≡ bare (standing_with setting x s begin)
 with_bare setting x s begin =
-    let one : Standing = bare (standing_with setting (bare x) s begin) in
-    let two : Standing = bare (standing_with setting x s begin) in
+    let one : PlacedRecords = bare (standing_with setting (bare x) s begin) in
+    let two : PlacedRecords = bare (standing_with setting x s begin) in
     let twice : (o : Option Record) → option_map unloaded (option_map unloaded o) ≡ option_map unloaded o = λ o. elim o as (λ o. option_map unloaded (option_map unloaded o) ≡ option_map unloaded o) [ None ↦ refl | Some r ↦ refl ] in
     let section : one.section ≡ two.section = fun_ext (λ t. elim (s == t) as (λ b. option_map unloaded (cond b (Some (hull (records_by setting s begin))) (option_map unloaded (x.section t)))
     ≡ option_map unloaded (cond b (Some (hull (records_by setting s begin))) (x.section t))) [ true ↦ refl | false ↦ twice (x.section t) ]) in
@@ -165,13 +165,13 @@ loads_go_by_what_stands setting k s from to records ready each here places =
     let below : s < length setting.plan.sections = section_there setting k s ready here in
     let bared : List Record = map unloaded records in
     let count : length bared ≡ length (all_parts setting.plan.sections) = length-map records unloaded ∙ each in
-    let before : Standing = standing_before setting.plan records k in
-    let behind : Standing = standing_before setting.plan records (k + 1) in
-    let by : Standing → Result (Option ℕ) Refusal = λ x. load_by setting s x left e in
+    let before : PlacedRecords = standing_before setting.plan records k in
+    let behind : PlacedRecords = standing_before setting.plan records (k + 1) in
+    let by : PlacedRecords → Result (Option ℕ) Refusal = λ x. load_by setting s x left e in
     sym (load_bare setting s (standing_with setting before s begin) left e)
     ∙ sym (ap by (with_bare setting before s begin))
     ∙ load_bare setting s (standing_with setting (bare before) s begin) left e
-    ∙ sym (ap (λ (x : Standing). by (standing_with setting x s begin)) (standing_unloaded setting records k))
+    ∙ sym (ap (λ (x : PlacedRecords). by (standing_with setting x s begin)) (standing_unloaded setting records k))
     ∙ sym (ap by (standing_behind setting k s begin bared bared ready here count count (written setting s from to records ready below places)))
     ∙ ap by (standing_unloaded setting records (k + 1))
     ∙ load_bare setting s behind left e

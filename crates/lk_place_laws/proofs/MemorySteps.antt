@@ -22,7 +22,7 @@ use Rattle.lk_place.specs.declared.regions.SectionRegion.TheVariants.{Free, Unde
 use Rattle.lk_place.specs.Alignments.{place_alignment}
 use Rattle.lk_place.specs.InRegions.{named_region, numbered_region, stands_in}
 use Rattle.lk_place_laws.specs.Laws.{IsSoundlySet}
-use Rattle.lk_place.specs.PlacedBefore.{Known, Standing}
+use Rattle.lk_place.specs.PlacedBefore.{Known, PlacedRecords}
 use Rattle.lk_place.specs.Placement.{IsPlaced, known_before, Places, PlacesSection, moved, reached, section_start, state_at}
 use Rattle.lk_place.specs.Plain.{IsPlain}
 use Rattle.lk_place_laws.specs.Plans.{IsUnmoved}
@@ -68,7 +68,7 @@ nothing_first setting states begins some =
     let first : state_at states 0 ≡ first_state setting = get_or_from_slice_get states 0 (first_state setting) no_cursors (has_first (start setting) (first_state setting) states given begins) in
     ap (λ (c : Cursors). c.pending) first ∙ waits_first (begun_memory setting.plan setting.groups setting.headers) (first_state setting) given
 
-places_quietly : (setting : Setting) (standing : Standing) (o : Option ℕ) (entered to : Cursors) (records : List Record) → Places setting standing o entered records to → to.pending ≡ entered.pending
+places_quietly : (setting : Setting) (standing : PlacedRecords) (o : Option ℕ) (entered to : Cursors) (records : List Record) → Places setting standing o entered records to → to.pending ≡ entered.pending
 places_quietly setting standing None entered to records h = ap (λ (c : Cursors). c.pending) h
 places_quietly setting standing (Some s) entered to records h = ap (λ (c : Cursors). c.pending) h.placed.leaves
 
@@ -140,7 +140,7 @@ section_in_place setting s entered to records false is h =
     let end : Offsets = reached setting s records (section_start setting s entered) (part_count setting.plan.sections s) in
     omega (arith, ap (λ (c : Cursors). c.memory) h.leaves ∙ ap (λ b. if b then end.memory else entered.memory) is)
 
-places_in_memory : (setting : Setting) (standing : Standing) (o : Option ℕ) (entered to : Cursors) (records : List Record) → Places setting standing o entered records to → free_memory entered ≤ free_memory to
+places_in_memory : (setting : Setting) (standing : PlacedRecords) (o : Option ℕ) (entered to : Cursors) (records : List Record) → Places setting standing o entered records to → free_memory entered ≤ free_memory to
 places_in_memory setting standing None entered to records h = omega (arith, ap free_memory h)
 places_in_memory setting standing (Some s) entered to records h =
     free_rises entered to (ap (λ (c : Cursors). c.saved) h.placed.leaves) (section_in_place setting s entered to records (takes_addresses setting s) refl h.placed)

@@ -11,7 +11,7 @@ use Rattle.lk_expressions.specs.Records.{Fits, Record, file_end, is_filled, mem_
 use Rattle.lk_place.specs.declared.cursors.Cursors.{Cursors}
 use Rattle.lk_place.specs.declared.error.Refusal.{Refusal}
 use Rattle.lk_place.specs.InRegions.{past_region, stands_in}
-use Rattle.lk_place.specs.PlacedBefore.{Standing}
+use Rattle.lk_place.specs.PlacedBefore.{PlacedRecords}
 use Rattle.lk_place.specs.Placement.{IsPlaced, PlacesSection, either_refusal, event_refusal, first_walked, is_walked, known_before, load_given, load_refusal, numbered, placing_refusal, refusal_behind_move, section_left, section_overflow, section_refusal, state_at}
 use Rattle.lk_place_laws.specs.SectionRanges.{FileBytesAreBacked, SectionsFit, span_of}
 use Rattle.lk_place_laws.specs.SegmentHulls.{HoldsRecord}
@@ -77,7 +77,7 @@ parts_fit setting states records ready placed whole s there j below =
     let (k, here) = ready.events.placed s there in
     let before = early setting states k s whole here in
     let passes = placed.steps k (Section s) (omega (arith, before)) here in
-    let standing : Standing = (known_before setting states records k).standing in
+    let standing : PlacedRecords = (known_before setting states records k).standing in
     let entered : Cursors = passes.steps.entered in
     let none = unnumbered k (event_refusal setting (known_before setting states records k) (Section s) (state_at states k)) passes.unrefused in
     let unrefused : section_refusal setting standing (Some s) entered ≡ None = ap (refusal_behind_move setting standing (Some s)) (sym passes.steps.moves) ∙ none in

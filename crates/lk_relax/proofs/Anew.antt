@@ -8,7 +8,7 @@ use Rattle.lk_place.specs.Answers.{GivesPlaced}
 use Rattle.lk_place.specs.Setting.{setting_of}
 use Rattle.lk_sizes.specs.PartOwners.{part_sizes}
 use Rattle.lk_relax.specs.declared.passes.Passed.{Passed}
-use Rattle.lk_relax.specs.declared.relaxation.Places.{Places}
+use Rattle.lk_relax.specs.declared.relaxation.LinkPositions.{LinkPositions}
 use Rattle.lk_deltas.specs.LinkDeletions.{Deletions}
 use Rattle.lk_relax.specs.Positions.{section_positions, symbol_positions}
 use Rattle.lk_relax.specs.RelaxationWords.{GivesAnew, GivesPlaces}
@@ -35,7 +35,7 @@ refused_places by deletions (BaseTooLow base headers) h = h
 refused_places by deletions (SectionOutsideSegments s) h = h
 
 -- the exit of a `?`
-pub places_exit : (by : Relaxing) (deletions : Deletions) (P : PlaceError → Type 0) (answer : Result Places PlaceError) → IsErrAnd answer P → ((e : PlaceError) → P e → GivesPlaces by deletions (Err e)) → GivesPlaces by deletions answer
+pub places_exit : (by : Relaxing) (deletions : Deletions) (P : PlaceError → Type 0) (answer : Result LinkPositions PlaceError) → IsErrAnd answer P → ((e : PlaceError) → P e → GivesPlaces by deletions (Err e)) → GivesPlaces by deletions answer
 places_exit by deletions P (Ok places) h f = absurd h
 places_exit by deletions P (Err e) h f = f e h
 

@@ -28,7 +28,7 @@ use Rattle.lk_sizes.proofs.LiveByFiles.{number_of}
 use Rattle.lk_sizes.proofs.OwnSizes.{own_size_at}
 use Rattle.lk_deltas.specs.LinkDeletions.{Deletions, size_after, sizes_after}
 use Rattle.lk_relax.specs.PassWords.{StandOnce, fall_between, is_named, is_within, near_ones}
-use Rattle.lk_relax.specs.Scan.{Standing, scanned}
+use Rattle.lk_relax.specs.Scan.{PassState, scanned}
 use Rattle.lk_relax.specs.RelaxedLaws.{IsShrunk, SizesFallByPasses}
 use Rattle.lk_relax.specs.Stages.{Relaxing, Stage, capacity_after, fall_of, link_of, shrink_pass}
 
@@ -130,7 +130,7 @@ sizes_fall law by a k shrunk = by_place (slice_get (all_inputs (link_of by).grou
 -- ---- what is looked at again
 
 -- the sections that are near, by what was found in them
-pub near_are : (w : Standing) (total : ℕ) (scan : List (FileId × ℕ)) → near_ones total (map (scanned w) scan) ≡ filter (λ q. is_within total (scanned w q).3) scan
+pub near_are : (w : PassState) (total : ℕ) (scan : List (FileId × ℕ)) → near_ones total (map (scanned w) scan) ≡ filter (λ q. is_within total (scanned w q).3) scan
 near_are w total [] = refl
 near_are w total (q ∷ scan) =
     elim (is_within total (scanned w q).3) as (λ b. map (λ f. (f.0, f.1)) (cond b (scanned w q ∷ filter (λ f. is_within total f.3) (map (scanned w) scan)) (filter (λ f. is_within total f.3) (map (scanned w) scan)))

@@ -28,7 +28,7 @@ use Rattle.lk_deltas.specs.Laws.{GoodCandidatesCanGo, PickedAreNew, PickedCanGo}
 use Rattle.lk_sizes.specs.Tables.{IsInput}
 use Rattle.lk_deltas.specs.LinkDeletions.{Deletions}
 use Rattle.lk_relax.specs.PassWords.{IsFound, StandOnce, deleted_by, is_named, ranges_by, standing_with, with_deleted}
-use Rattle.lk_relax.specs.Scan.{CanBeScanned, Standing, candidates_of, ranges_of, scanned, told}
+use Rattle.lk_relax.specs.Scan.{CanBeScanned, PassState, candidates_of, ranges_of, scanned, told}
 use Rattle.lk_relax.specs.Stages.{deletions_by, file_entries, is_among}
 use Rattle.lk_relax.proofs.Deleting.{Other, deleted_alike, deleted_put}
 use Rattle.lk_relax.proofs.ReadBack.{deletions_are_read}
@@ -107,7 +107,7 @@ nothing_goes told old cs of none = ap (map range_of) (none_goes (is_gone old) (�
 -- ---- one section
 
 -- what was found in the section with this place, which wasn't looked at before
-pub record IsOne (link : LinkInput) (deletions : Deletions) (by : Standing) (scan : List (FileId × ℕ)) (i : ℕ) (one : FileId × ℕ × List (ℕ × ℕ) × Option ℕ) : Type 0 where
+pub record IsOne (link : LinkInput) (deletions : Deletions) (by : PassState) (scan : List (FileId × ℕ)) (i : ℕ) (one : FileId × ℕ × List (ℕ × ℕ) × Option ℕ) : Type 0 where
   pub x : Input
   pub is : IsInput link x
   pub file : one.0 ≡ x.file
@@ -127,11 +127,11 @@ either_true : (b c : Bool) → c ≡ true → (b || c) ≡ true
 either_true true c h = refl
 either_true false c h = h
 
-pub is_one : GoodCandidatesCanGo → (link : LinkInput) (deletions : Deletions) (by : Standing) (scan : List (FileId × ℕ)) (results : List (FileId × ℕ × List (ℕ × ℕ) × Option ℕ)) (i : ℕ) (one : FileId × ℕ × List (ℕ × ℕ) × Option ℕ)
+pub is_one : GoodCandidatesCanGo → (link : LinkInput) (deletions : Deletions) (by : PassState) (scan : List (FileId × ℕ)) (results : List (FileId × ℕ × List (ℕ × ℕ) × Option ℕ)) (i : ℕ) (one : FileId × ℕ × List (ℕ × ℕ) × Option ℕ)
     → IsWellFormed link → ((s : InputSection) → option_and_then (λ (f : InputFile). slice_get f.sections one.1) (file_in link.groups one.0) ≡ Some s → s.size < 2 ^ 64)
     → IsFound link deletions by scan results → i < length results → one ≡ get_or results i one → IsOne link deletions by scan i one
 is_one law link deletions by scan results i one good small h below read =
-    let w : Standing = standing_with link deletions by in
+    let w : PassState = standing_with link deletions by in
     let within : i < length scan = omega (arith, below, ap length h.found_is ∙ length-map scan (scanned w)) in
     let d : FileId × ℕ = (record { group = 0; file = 0 }, 0) in
     let q : FileId × ℕ = get_or scan i d in
@@ -161,7 +161,7 @@ is_one law link deletions by scan results i one good small h below read =
     }
 
 -- what is deleted of it behind the pass
-abbrev pub all_of : (link : LinkInput) (deletions : Deletions) (by : Standing) → Input → List (ℕ × ℕ)
+abbrev pub all_of : (link : LinkInput) (deletions : Deletions) (by : PassState) → Input → List (ℕ × ℕ)
 all_of link deletions by x = shrunk (told (standing_with link deletions by) x.file x.index) (ranges_of link.groups deletions x.file x.index) x.section.relax
 
 -- what is asked of the call that deletes it
@@ -171,10 +171,10 @@ pub record IsAsked (link : LinkInput) (now : Deletions) (one : FileId × ℕ × 
   pub rising : AreDeletions one.2
   pub apart : AreBoth (ranges_of link.groups now one.0 one.1) one.2 all
 
-pub is_asked : PickedCanGo → PickedAreNew → (link : LinkInput) (deletions now : Deletions) (by : Standing) (scan : List (FileId × ℕ)) (i : ℕ) (one : FileId × ℕ × List (ℕ × ℕ) × Option ℕ) (h : IsOne link deletions by scan i one)
+pub is_asked : PickedCanGo → PickedAreNew → (link : LinkInput) (deletions now : Deletions) (by : PassState) (scan : List (FileId × ℕ)) (i : ℕ) (one : FileId × ℕ × List (ℕ × ℕ) × Option ℕ) (h : IsOne link deletions by scan i one)
     → now ≡ deleted_by (standing_with link deletions by) (take i scan) → IsAsked link now one (all_of link deletions by h.x)
 is_asked go new link deletions now by scan i one h are =
-    let w : Standing = standing_with link deletions by in
+    let w : PassState = standing_with link deletions by in
     let x : Input = h.x in
     let r : Input → List (ℕ × ℕ) = ranges_by w (take i scan) in
     let f = file_of_input link.groups (input_number link.groups x.file x.index) x h.is in
@@ -228,12 +228,12 @@ some_left old more all h some =
     ne_eqb (length all) 0 (λ none. let clash : false ≡ true = sym some ∙ eq-eqb (length more) 0 (omega (arith, none, count)) in absurd (cc))
 
 -- one section more is done
-pub found_next : PickedAreNew → (link : LinkInput) (deletions now next : Deletions) (by : Standing) (scan : List (FileId × ℕ)) (i : ℕ) (one : FileId × ℕ × List (ℕ × ℕ) × Option ℕ) (h : IsOne link deletions by scan i one)
+pub found_next : PickedAreNew → (link : LinkInput) (deletions now next : Deletions) (by : PassState) (scan : List (FileId × ℕ)) (i : ℕ) (one : FileId × ℕ × List (ℕ × ℕ) × Option ℕ) (h : IsOne link deletions by scan i one)
     → now ≡ deleted_by (standing_with link deletions by) (take i scan) → next ≡ (if length one.2 == 0 then now else with_deleted link.groups now one.0 one.1 (all_of link deletions by h.x))
     → next ≡ deleted_by (standing_with link deletions by) (take (i + 1) scan)
 found_next new link deletions now next by scan i one h are is = is ∙ step (length one.2 == 0) refl
   where
-    w : Standing
+    w : PassState
     w = standing_with link deletions by
 
     x : Input

@@ -27,7 +27,7 @@ use Rattle.lk_deltas.specs.Candidates.{is_past, is_short, ranges_in}
 use Rattle.lk_deltas.specs.DeltaMaps.{deltas_at}
 use Rattle.lk_relax.specs.declared.sites.RelaxedPlace.{RelaxedPlace}
 use Rattle.lk_deltas.specs.LinkDeletions.{Deletions, deleted_of}
-use Rattle.lk_relax.specs.Scan.{CanBeScanned, Standing, outcome_by, ranges_of, site, told}
+use Rattle.lk_relax.specs.Scan.{CanBeScanned, PassState, outcome_by, ranges_of, site, told}
 use Rattle.lk_relax.specs.Sites.{DeletedSitesAreNear, NothingIsPast, ShrunkCanBeScanned, candidate_past, file_past, is_nothing_deleted, past_limit, section_past}
 
 pub shrunk_can_be_scanned : ShrunkCanBeScanned
@@ -44,7 +44,7 @@ near a b limit h =
     ]) refl h
 
 -- one that is past its limit is listed
-listed : (by : Standing) (k j : ℕ) (x : Input) (c : RelaxCandidate) → slice_get (all_inputs by.link.groups) k ≡ Some x → slice_get x.section.relax j ≡ Some c
+listed : (by : PassState) (k j : ℕ) (x : Input) (c : RelaxCandidate) → slice_get (all_inputs by.link.groups) k ≡ Some x → slice_get x.section.relax j ≡ Some c
     → is_past (told by x.file x.index) (ranges_of by.link.groups by.deletions x.file x.index) c ≡ true
     → (n : ℕ) × (place : RelaxedPlace) × (slice_get (past_limit by) n ≡ Some place)
 listed by k j x c there at past =
@@ -79,7 +79,7 @@ deleted_sites_are_near by k j a b x c none there at gone goal stands =
 
 -- ---- the first of a section
 
-module _ (by : Standing) (id : FileId) (section : ℕ) where
+module _ (by : PassState) (id : FileId) (section : ℕ) where
   found_from : (o : ℕ) (cs : List RelaxCandidate) → position_or_len (is_past (told by id section) (ranges_of by.link.groups by.deletions id section)) cs < length cs
       → slice_get (flat_map (candidate_past by id section) (enumerate_from o cs)) 0
       ≡ Some (record { file = id; section = section; candidate = o + position_or_len (is_past (told by id section) (ranges_of by.link.groups by.deletions id section)) cs })
@@ -131,23 +131,23 @@ module _ (by : Standing) (id : FileId) (section : ℕ) where
 
 -- ---- sections and files of which nothing is deleted
 
-no_candidate : (by : Standing) (id : FileId) (section : ℕ) (o : ℕ) (cs : List RelaxCandidate) → ranges_of by.link.groups by.deletions id section ≡ [] → flat_map (candidate_past by id section) (enumerate_from o cs) ≡ []
+no_candidate : (by : PassState) (id : FileId) (section : ℕ) (o : ℕ) (cs : List RelaxCandidate) → ranges_of by.link.groups by.deletions id section ≡ [] → flat_map (candidate_past by id section) (enumerate_from o cs) ≡ []
 no_candidate by id section o [] none = refl
 no_candidate by id section o (c ∷ cs) none =
     let rest : List RelaxedPlace = flat_map (candidate_past by id section) (enumerate_from (o + 1) cs) in
     let tells : RelaxCandidate → Outcome = told by id section in
     ap (λ (rs : List (ℕ × ℕ)). (if is_past tells rs c then record { file = id; section = section; candidate = o } ∷ [] else []) ++ rest) none ∙ no_candidate by id section (o + 1) cs none
 
-pub whole_section : (by : Standing) (id : FileId) (q : ℕ × InputSection) → deleted_of by.link.groups by.deletions id q.0 ≡ None → section_past by id q ≡ []
+pub whole_section : (by : PassState) (id : FileId) (q : ℕ × InputSection) → deleted_of by.link.groups by.deletions id q.0 ≡ None → section_past by id q ≡ []
 whole_section by id q none = no_candidate by id q.0 0 q.1.relax (ap ranges_in none)
 
-whole_sections : (by : Standing) (id : FileId) (o : ℕ) (sections : List InputSection) → ((i : ℕ) → deleted_of by.link.groups by.deletions id i ≡ None) → flat_map (section_past by id) (enumerate_from o sections) ≡ []
+whole_sections : (by : PassState) (id : FileId) (o : ℕ) (sections : List InputSection) → ((i : ℕ) → deleted_of by.link.groups by.deletions id i ≡ None) → flat_map (section_past by id) (enumerate_from o sections) ≡ []
 whole_sections by id o [] none = refl
 whole_sections by id o (s ∷ sections) none =
     ap (λ (ps : List RelaxedPlace). ps ++ flat_map (section_past by id) (enumerate_from (o + 1) sections)) (whole_section by id (o, s) (none o)) ∙ whole_sections by id (o + 1) sections none
 
 -- a file without an entry for any of its sections
-pub whole_file : (by : Standing) (f : NumberedFile) → ((i : ℕ) → deleted_of by.link.groups by.deletions f.id i ≡ None) → file_past by f ≡ []
+pub whole_file : (by : PassState) (f : NumberedFile) → ((i : ℕ) → deleted_of by.link.groups by.deletions f.id i ≡ None) → file_past by f ≡ []
 whole_file by f none = whole_sections by f.id 0 f.file.sections none
 
 -- ---- what the code knows of a section
@@ -188,7 +188,7 @@ none_at ((e ∷ es) ∷ more) n index h =
     let never : true ≡ false = sym some ∙ eqb-suc-zero (length es) in
     absurd (cc)
 
-no_file : (by : Standing) (files : List NumberedFile) → is_nothing_deleted by.deletions ≡ true → flat_map (file_past by) files ≡ []
+no_file : (by : PassState) (files : List NumberedFile) → is_nothing_deleted by.deletions ≡ true → flat_map (file_past by) files ≡ []
 no_file by [] h = refl
 no_file by (f ∷ files) h =
     ap (λ (ps : List RelaxedPlace). ps ++ flat_map (file_past by) files) (whole_sections by f.id 0 f.file.sections (λ i. none_at by.deletions (file_number by.link.groups f.id) i h))

@@ -11,7 +11,7 @@ use Rattle.lk_sizes.specs.Harvest.{capacity_by}
 use Rattle.lk_deltas.specs.Candidates.{shrunk}
 use Rattle.lk_deltas.specs.DeltaMaps.{with_ranges}
 use Rattle.lk_deltas.specs.LinkDeletions.{Deletions}
-use Rattle.lk_relax.specs.Scan.{CanBeScanned, Standing, ranges_of, scanned, told}
+use Rattle.lk_relax.specs.Scan.{CanBeScanned, PassState, ranges_of, scanned, told}
 use Rattle.lk_relax.specs.Stages.{deletions_by, is_among}
 
 -- ---- what is deleted
@@ -27,13 +27,13 @@ abbrev pub AreWhole : LinkInput → Deletions → Type 0
 AreWhole link deletions = deletions ≡ deletions_by link (λ x. ranges_of link.groups deletions x.file x.index)
 
 -- what is deleted of a section behind a pass over some, by how all stands before it
-abbrev pub ranges_by : Standing → List (FileId × ℕ) → Input → List (ℕ × ℕ)
+abbrev pub ranges_by : PassState → List (FileId × ℕ) → Input → List (ℕ × ℕ)
 ranges_by by scan x =
     let old = ranges_of by.link.groups by.deletions x.file x.index in
     if is_among scan x then shrunk (told by x.file x.index) old x.section.relax else old
 
 -- what is deleted behind it
-abbrev pub deleted_by : Standing → List (FileId × ℕ) → Deletions
+abbrev pub deleted_by : PassState → List (FileId × ℕ) → Deletions
 deleted_by by scan = deletions_by by.link (ranges_by by scan)
 
 -- ---- what is looked at
@@ -48,11 +48,11 @@ StandOnce [] = Unit {0}
 StandOnce (q ∷ qs) = (list_any (λ r. is_named r q) qs ≡ false) × StandOnce qs
 
 -- how all stands of this link, where so much is deleted
-abbrev pub standing_with : LinkInput → Deletions → Standing → Standing
+abbrev pub standing_with : LinkInput → Deletions → PassState → PassState
 standing_with link deletions by = record by { link = link; deletions = deletions }
 
 -- this was found in these sections, each of which can be looked at and stands there once, by how all stands before the pass
-pub record IsFound (link : LinkInput) (deletions : Deletions) (by : Standing) (scan : List (FileId × ℕ)) (found : List (FileId × ℕ × List (ℕ × ℕ) × Option ℕ)) : Type 0 where
+pub record IsFound (link : LinkInput) (deletions : Deletions) (by : PassState) (scan : List (FileId × ℕ)) (found : List (FileId × ℕ × List (ℕ × ℕ) × Option ℕ)) : Type 0 where
   pub whole : AreWhole link deletions
   pub can : All (λ q. CanBeScanned link.groups deletions q.0 q.1) scan
   pub once : StandOnce scan

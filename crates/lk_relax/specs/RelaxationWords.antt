@@ -27,7 +27,7 @@ use Rattle.lk_relax.specs.declared.passes.Shrunk.{Shrunk}
 use Rattle.lk_relax.specs.declared.relaxation.Begun.{Begun}
 use Rattle.lk_relax.specs.declared.relaxation.Begun.TheVariants as begun
 use Rattle.lk_relax.specs.declared.relaxation.Looks.{Looks}
-use Rattle.lk_relax.specs.declared.relaxation.Places.{Places}
+use Rattle.lk_relax.specs.declared.relaxation.LinkPositions.{LinkPositions}
 use Rattle.lk_relax.specs.declared.relaxation.RelaxedParts.{RelaxedParts}
 use Rattle.lk_relax.specs.declared.relaxation.Turned.{Turned}
 use Rattle.lk_relax.specs.declared.relaxation.Turned.TheVariants.{Last, Next}
@@ -122,13 +122,13 @@ GivesTurn by a hand (Err NoMemory) = Unit {0}
 GivesTurn by a hand (Err error) = TurnRefused by a error
 
 -- where all stands by what is deleted
-pub record ArePlaces (by : Relaxing) (deletions : Deletions) (places : Places) : Type 0 where
+pub record ArePlaces (by : Relaxing) (deletions : Deletions) (places : LinkPositions) : Type 0 where
   pub stands : ArePlaced (setting_after by deletions) places.placed
   pub sections : places.sections.items ≡ section_positions (filling_after by deletions)
   pub symbols : places.symbols ≡ symbol_positions (link_of by).groups deletions places.sections.items
 
 -- it does so, or that is refused; nothing is said for want of memory
-abbrev pub GivesPlaces : Relaxing → Deletions → Result Places PlaceError → Type 0
+abbrev pub GivesPlaces : Relaxing → Deletions → Result LinkPositions PlaceError → Type 0
 GivesPlaces by deletions (Ok places) = ArePlaces by deletions places
 GivesPlaces by deletions (Err NoMemory) = Unit {0}
 GivesPlaces by deletions (Err error) = IsRefused (setting_after by deletions) error

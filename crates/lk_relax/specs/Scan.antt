@@ -27,7 +27,7 @@ use Rattle.lk_relax.specs.Positions.{position_in}
 
 -- how all stands before a pass: a link and what is live of it, the positions of its input sections and symbols, the records of all parts,
 -- and what is deleted
-pub record Standing : Type 0 where
+pub record PassState : Type 0 where
   pub link : LinkInput
   pub live : Live
   pub sections : List (Option (ℕ × ℕ))
@@ -46,7 +46,7 @@ abbrev pub address_in : List Record → ℕ → ℕ → Option ℕ
 address_in parts p offset = as_address ((record_at parts p).mem_offset + offset)
 
 -- the address of an offset of a section of a file, if the section has a position
-abbrev pub site : Standing → FileId → ℕ → ℕ → Option ℕ
+abbrev pub site : PassState → FileId → ℕ → ℕ → Option ℕ
 site by id index offset =
     option_and_then (λ p. address_in by.parts p.0 (p.1 + output_offset by.link.groups by.deletions id index offset)) (position_in by.link.groups by.sections id index)
 
@@ -56,7 +56,7 @@ absolute_value (at.Absolute n) = Some n
 absolute_value _ = None
 
 -- the address of a symbol by its number: the number that it is, or where it stands; none if it has none, or another may take its place
-abbrev pub target : Standing → ℕ → Option ℕ
+abbrev pub target : PassState → ℕ → Option ℕ
 target by s =
     if has_flag flag.INTERPOSABLE.0 (flags_at by.live.flags s).0 then None
     else first_some (option_and_then (λ x. absolute_value x.at) (symbol_at by.link.groups s))
@@ -70,7 +70,7 @@ outcome_by (Some a) (Some b) limit = if nat_le (abs_diff a b) limit then outcome
 outcome_by _ _ limit = outcome.Untouched
 
 -- what comes of a candidate of a section of a file whose bytes are there: by what stands for its symbol
-abbrev pub told : Standing → FileId → ℕ → RelaxCandidate → Outcome
+abbrev pub told : PassState → FileId → ℕ → RelaxCandidate → Outcome
 told by id index c =
     outcome_by (option_and_then (target by) (definition_of by.link.groups (first_symbol by.link.groups id + c.symbol))) (site by id index c.at) c.limit
 
@@ -94,7 +94,7 @@ pub record CanBeScanned (groups : List (List InputFile)) (deletions : Deletions)
   pub of : AreOf (ranges_of groups deletions id index) section.relax
 
 -- what a pass finds in a section of a file: what more is deleted of it, and the margin, by how much the nearest one of the others misses
-abbrev pub scanned : Standing → FileId × ℕ → FileId × ℕ × List (ℕ × ℕ) × Option ℕ
+abbrev pub scanned : PassState → FileId × ℕ → FileId × ℕ × List (ℕ × ℕ) × Option ℕ
 scanned by q =
     let cs = candidates_of by.link.groups q.0 q.1 in
     let old = ranges_of by.link.groups by.deletions q.0 q.1 in

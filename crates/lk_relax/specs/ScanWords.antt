@@ -12,7 +12,7 @@ use Rattle.lk_deltas.specs.declared.candidates.Outcome.TheVariants as outcome
 use Rattle.lk_deltas.specs.Deletions.{mapped_by}
 use Rattle.lk_relax.specs.declared.judge.SectionJudge.{SectionJudge}
 use Rattle.lk_relax.specs.declared.scan.Before.{Before}
-use Rattle.lk_relax.specs.Scan.{Standing, address_in, outcome_by, target}
+use Rattle.lk_relax.specs.Scan.{PassState, address_in, outcome_by, target}
 
 -- the address of a symbol by its number, by what is lent
 abbrev pub target_in : LinkInput → Live → List (Option SymbolPosition) → List Record → ℕ → Option ℕ
@@ -39,7 +39,7 @@ pub record IsNumbered (j : SectionJudge) (c : RelaxCandidate) : Type 0 where
   pub own : symbol_at j.link.now.groups (j.first + c.symbol) ≡ slice_get j.own.now c.symbol
 
 -- how all stands, by what is lent
-abbrev pub standing_of : Before → Standing
+abbrev pub standing_of : Before → PassState
 standing_of b = record {
   link = b.link.now;
   live = b.live.now;

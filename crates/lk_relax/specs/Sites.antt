@@ -12,28 +12,28 @@ use Rattle.lk_deltas.specs.Candidates.{is_gone, is_past}
 use Rattle.lk_relax.specs.declared.sites.RelaxedPlace.{RelaxedPlace}
 use Rattle.lk_deltas.specs.LinkDeletions.{Deletions, deleted_of}
 use Rattle.lk_relax.specs.RelaxedLaws.{IsShrunk}
-use Rattle.lk_relax.specs.Scan.{CanBeScanned, Standing, ranges_of, site, target, told}
+use Rattle.lk_relax.specs.Scan.{CanBeScanned, PassState, ranges_of, site, target, told}
 use Rattle.lk_relax.specs.Stages.{Relaxing, Stage, link_of}
 
 -- ---- the look
 
 -- a candidate with its index in a section, where its bytes are gone and its symbol is too far from where they stood
-abbrev pub candidate_past : Standing → FileId → ℕ → ℕ × RelaxCandidate → List RelaxedPlace
+abbrev pub candidate_past : PassState → FileId → ℕ → ℕ × RelaxCandidate → List RelaxedPlace
 candidate_past by id section q =
     if is_past (told by id section) (ranges_of by.link.groups by.deletions id section) q.1
     then record { file = id; section = section; candidate = q.0 } ∷ []
     else []
 
 -- those of a section with its index
-abbrev pub section_past : Standing → FileId → ℕ × InputSection → List RelaxedPlace
+abbrev pub section_past : PassState → FileId → ℕ × InputSection → List RelaxedPlace
 section_past by id q = flat_map (candidate_past by id q.0) (enumerate_from 0 q.1.relax)
 
 -- those of a file
-abbrev pub file_past : Standing → NumberedFile → List RelaxedPlace
+abbrev pub file_past : PassState → NumberedFile → List RelaxedPlace
 file_past by f = flat_map (section_past by f.id) (enumerate_from 0 f.file.sections)
 
 -- all candidates past their limits, by file, section and index
-abbrev pub past_limit : Standing → List RelaxedPlace
+abbrev pub past_limit : PassState → List RelaxedPlace
 past_limit by = flat_map (file_past by) (numbered_files by.link.groups)
 
 -- no file has an entry of what is deleted
@@ -53,7 +53,7 @@ ShrunkCanBeScanned = (by : Relaxing) (a : Stage) → IsShrunk by a → CanAllBeS
 
 -- where no candidate is past its limit, the site of each whose bytes are gone is no farther from its symbol than that, if both have addresses
 abbrev pub DeletedSitesAreNear : Type 0
-DeletedSitesAreNear = (by : Standing) (k j a b : ℕ) (x : Input) (c : RelaxCandidate) → past_limit by ≡ []
+DeletedSitesAreNear = (by : PassState) (k j a b : ℕ) (x : Input) (c : RelaxCandidate) → past_limit by ≡ []
     → slice_get (all_inputs by.link.groups) k ≡ Some x → slice_get x.section.relax j ≡ Some c
     → is_gone (ranges_of by.link.groups by.deletions x.file x.index) c ≡ true
     → option_and_then (target by) (definition_of by.link.groups (first_symbol by.link.groups x.file + c.symbol)) ≡ Some a
@@ -62,4 +62,4 @@ DeletedSitesAreNear = (by : Standing) (k j a b : ℕ) (x : Input) (c : RelaxCand
 
 -- where nothing is deleted, none is past its limit
 abbrev pub NothingIsPast : Type 0
-NothingIsPast = (by : Standing) → is_nothing_deleted by.deletions ≡ true → past_limit by ≡ []
+NothingIsPast = (by : PassState) → is_nothing_deleted by.deletions ≡ true → past_limit by ≡ []

@@ -22,7 +22,7 @@ use Rattle.lk_sizes.specs.Owners.{Filling}
 use Rattle.lk_sizes.specs.PartOwners.{part_sizes}
 use Rattle.lk_deltas.specs.LinkDeletions.{Deletions, size_after, sizes_after}
 use Rattle.lk_relax.specs.Positions.{has_position, section_positions, symbol_positions}
-use Rattle.lk_relax.specs.Scan.{CanBeScanned, Standing, ranges_of, scanned, told}
+use Rattle.lk_relax.specs.Scan.{CanBeScanned, PassState, ranges_of, scanned, told}
 
 -- ---- what relaxation goes by
 
@@ -58,7 +58,7 @@ pub record Stage : Type 0 where
   pub records : List Record
 
 -- how all stands at a stage
-abbrev pub standing_at : Relaxing → Stage → Standing
+abbrev pub standing_at : Relaxing → Stage → PassState
 standing_at by a = record {
   link = link_of by;
   live = by.filling.content.live;

@@ -14,7 +14,7 @@ ghost use Rattle.lk_sizes.specs.Owners.{own_sizes};
 ghost use Rattle.lk_relax.specs.PassWords.{IsFound, deleted_by, fall_between, is_within, near_ones, standing_with, with_deleted};
 ghost use Rattle.lk_relax.specs.RelaxationWords.{HasShrunk, IsPassed, IsStage, stage_in};
 ghost use Rattle.lk_relax.specs.Relaxed.{for_link};
-ghost use Rattle.lk_relax.specs.Scan.{Standing, ranges_of, scanned};
+ghost use Rattle.lk_relax.specs.Scan.{PassState, ranges_of, scanned};
 ghost use Rattle.lk_relax.specs.Stages.{Relaxing, standing_at};
 
 use crate::deletions::sizes_after;
@@ -146,8 +146,8 @@ fn delete_found(
     deltas: &mut Vec<RelaxDeltaMap>,
 ) -> Result<(), AllocError>
     requires good { IsWellFormed link.now }
-    requires found { (by : Standing) × (scan : List (FileId × ℕ)) × IsFound link.now deltas.old.items by scan found.now }
-    ensures { (by : Standing) (scan : List (FileId × ℕ)) → IsFound link.now deltas.old.items by scan found.now
+    requires found { (by : PassState) × (scan : List (FileId × ℕ)) × IsFound link.now deltas.old.items by scan found.now }
+    ensures { (by : PassState) (scan : List (FileId × ℕ)) → IsFound link.now deltas.old.items by scan found.now
         → OnOk result (deltas.new.items ≡ deleted_by (standing_with link.now deltas.old.items by) scan) }
 {
     lk_deltas::laws::good_candidates_can_go();

@@ -75,7 +75,7 @@ pub(crate) struct Looks {
 
 /// Where all stands.
 #[derive(Drop)]
-pub(crate) struct Places {
+pub(crate) struct LinkPositions {
     /// The positions of all input sections, and of all symbols.
     pub(crate) sections: Vec<Option<(PartId, u64)>>,
     pub(crate) symbols: SymbolPositions,
@@ -357,7 +357,7 @@ fn make_places<P: Platform>(
     headers: u64,
     owners: &PartOwners,
     deltas: &[RelaxDeltaMap],
-) -> Result<Places, PlaceError>
+) -> Result<LinkPositions, PlaceError>
     requires good { IsWellFormed link.now }
     requires live { AreLive link.now live.now }
     requires thunks { AreThunkOwners link.now owners.now.thunks }
@@ -370,7 +370,7 @@ fn make_places<P: Platform>(
     let (sections, symbols) = compute_input_section_positions(alloc, link, live, owners, deltas)?;
     let sizes = part_sizes(alloc, owners)?;
     let placed = compute_layout_sections(alloc, link, &sizes, &symbols, headers, platform)?;
-    Ok(Places {
+    Ok(LinkPositions {
         sections,
         symbols,
         placed,

@@ -28,7 +28,7 @@ use Rattle.lk_sizes.proofs.Addressing.{same_number}
 use Rattle.lk_sizes.proofs.CommonOnes.{common_at_index, commons_rise}
 use Rattle.lk_link.specs.declared.resolution.Resolution.{Resolution}
 use Rattle.lk_resolutions.specs.Entries.{EntrySetting, told_flags, with_entries}
-use Rattle.lk_resolutions.specs.Resolutions.{Places, entries_of, file_resolutions, has_resolutions, placed_value, places_of, resolution_of, symbol_resolutions, value_of}
+use Rattle.lk_resolutions.specs.Resolutions.{ValueAddresses, entries_of, file_resolutions, has_resolutions, placed_value, places_of, resolution_of, symbol_resolutions, value_of}
 use Rattle.lk_resolutions.specs.Tables.{AreRising, common_in}
 use Rattle.lk_resolutions.proofs.EntriesTaken.{plain_flags}
 
@@ -150,7 +150,7 @@ common_found filling starts p s size h =
 -- ---- the same resolutions by the table
 
 -- what values go by, with commons by the table
-abbrev pub places_with : Filling → Deletions → Edges → List ℕ → Places
+abbrev pub places_with : Filling → Deletions → Edges → List ℕ → ValueAddresses
 places_with filling deletions edges starts = record (places_of filling deletions edges starts) { common = λ p s. common_in (common_addresses filling starts) s }
 
 same_value : (filling : Filling) (deletions : Deletions) (edges : Edges) (starts : List ℕ) (first s : ℕ) (p : SymbolPlacement)
@@ -221,7 +221,7 @@ one_alike filling deletions edges starts f i k x at_f at_k =
     let by : EntrySetting = entries_of filling starts in
     let flags : ValueFlags = told_flags by f.file.kind (s, x) in
     let told : Option ℕ → Option Resolution = option_map (with_entries by s flags) in
-    let value : Places → Option ℕ = λ places. value_of places f.file.kind first s x.at in
+    let value : ValueAddresses → Option ℕ = λ places. value_of places f.file.kind first s x.at in
     let test : Bool = has_resolutions f.file.kind && is_wanted f.file.kind s x flags in
     elim test as (λ b. test ≡ b
     → (if b then told (value (places_with filling deletions edges starts)) else None) ≡ (if b then told (value (places_of filling deletions edges starts)) else None)) [
@@ -234,8 +234,8 @@ pub resolutions_alike : (filling : Filling) (deletions : Deletions) (edges : Edg
     ≡ symbol_resolutions filling deletions edges starts
 resolutions_alike filling deletions edges starts =
     let by : EntrySetting = entries_of filling starts in
-    let theirs : Places = places_with filling deletions edges starts in
-    let own : Places = places_of filling deletions edges starts in
+    let theirs : ValueAddresses = places_with filling deletions edges starts in
+    let own : ValueAddresses = places_of filling deletions edges starts in
     flat_alike (file_resolutions theirs by) (file_resolutions own by) (numbered_files filling.content.link.groups) (λ i f at_f.
-    let one : Places → ℕ × InputSymbol → Option Resolution = λ places. resolution_of places by f.file.kind (first_input filling.content.link.groups f.id) in
+    let one : ValueAddresses → ℕ × InputSymbol → Option Resolution = λ places. resolution_of places by f.file.kind (first_input filling.content.link.groups f.id) in
     map_alike (one theirs) (one own) (first_symbol filling.content.link.groups f.id) f.file.symbols (λ k x at_k. one_alike filling deletions edges starts f i k x at_f at_k))

@@ -43,7 +43,7 @@ use Rattle.lk_tables.proofs.OwnLemmas.{cursors_move_on, cursors_reach_entries}
 use Rattle.lk_resolutions.specs.declared.entries.NextEntries.{NextEntries}
 use Rattle.lk_resolutions.specs.Entries.{EntrySetting, entry_in, entry_setting, got_table, plt_table, told_flags, with_entries}
 use Rattle.lk_resolutions.specs.EntryWords.{AreNextAt, IsCursor, TableFits, TablesFit, cursor_behind, cursors_behind, first_cursors, made_at, start_of, unplaced_resolution}
-use Rattle.lk_resolutions.specs.Resolutions.{Places, has_resolutions, placed_value, resolution_of, value_of}
+use Rattle.lk_resolutions.specs.Resolutions.{ValueAddresses, has_resolutions, placed_value, resolution_of, value_of}
 use Rattle.lk_resolution_list.specs.Stores.{valued}
 use Rattle.lk_resolutions.proofs.NothingAsked.{none_among, nothing_allocated}
 
@@ -106,7 +106,7 @@ wanted_plain by k q resolved = elim (told_by by k q) [
 -- ---- resolutions
 
 -- what a symbol is worth, with its entries
-abbrev pub with_own : Places → EntrySetting → FileKind → ℕ → ℕ × InputSymbol → Option Resolution
+abbrev pub with_own : ValueAddresses → EntrySetting → FileKind → ℕ → ℕ × InputSymbol → Option Resolution
 with_own places by k first q = option_map (with_entries by q.0 (told_flags by k q)) (value_of places k first q.0 q.1.at)
 
 -- what is wanted stands in a file that has resolutions
@@ -116,14 +116,14 @@ wanted_has k s x flags h =
     (and_parts (not (is_not_loaded k)) (is_named x || not (is_internal k)) may.1).0
 
 -- what is wanted has a resolution, if it is worth anything
-pub has_own : (places : Places) (by : EntrySetting) (k : FileKind) (first : ℕ) (q : ℕ × InputSymbol) → is_wanted k q.0 q.1 (told_flags by k q) ≡ true
+pub has_own : (places : ValueAddresses) (by : EntrySetting) (k : FileKind) (first : ℕ) (q : ℕ × InputSymbol) → is_wanted k q.0 q.1 (told_flags by k q) ≡ true
     → resolution_of places by k first q ≡ with_own places by k first q
 has_own places by k first q wanted =
     ap (λ b. if b && is_wanted k q.0 q.1 (told_flags by k q) then with_own places by k first q else None) (wanted_has k q.0 q.1 (told_flags by k q) wanted)
     ∙ ap (λ b. if b then with_own places by k first q else None) wanted
 
 -- what isn't has none
-pub no_resolution : (places : Places) (by : EntrySetting) (k : FileKind) (first : ℕ) (q : ℕ × InputSymbol) → is_wanted k q.0 q.1 (told_flags by k q) ≡ false
+pub no_resolution : (places : ValueAddresses) (by : EntrySetting) (k : FileKind) (first : ℕ) (q : ℕ × InputSymbol) → is_wanted k q.0 q.1 (told_flags by k q) ≡ false
     → resolution_of places by k first q ≡ None
 no_resolution places by k first q unwanted =
     ap (λ b. if has_resolutions k && b then with_own places by k first q else None) unwanted
@@ -146,7 +146,7 @@ unfolding with_entries
 value_alone by s flags n = refl
 
 -- with what it is worth, that is the resolution
-pub placed_is : (places : Places) (by : EntrySetting) (k : FileKind) (first : ℕ) (q : ℕ × InputSymbol)
+pub placed_is : (places : ValueAddresses) (by : EntrySetting) (k : FileKind) (first : ℕ) (q : ℕ × InputSymbol)
     → resolution_of places by k first q ≡ option_and_then (λ r. option_map (λ n. valued n r) (value_of places k first q.0 q.1.at)) (unplaced_resolution by k q)
 placed_is places by k first q =
     let flags : ValueFlags = told_flags by k q in
@@ -162,20 +162,20 @@ placed_is places by k first q =
     ] refl
 
 -- what a resolution is
-pub record IsOwn (places : Places) (by : EntrySetting) (k : FileKind) (first : ℕ) (q : ℕ × InputSymbol) (r : Resolution) : Type 0 where
+pub record IsOwn (places : ValueAddresses) (by : EntrySetting) (k : FileKind) (first : ℕ) (q : ℕ × InputSymbol) (r : Resolution) : Type 0 where
   pub wanted : is_wanted k q.0 q.1 (told_flags by k q) ≡ true
   pub value : ℕ
   pub worth : value_of places k first q.0 q.1.at ≡ Some value
   pub is : r ≡ with_entries by q.0 (told_flags by k q) value
 
-worth_of : (places : Places) (by : EntrySetting) (k : FileKind) (first : ℕ) (q : ℕ × InputSymbol) (r : Resolution) (o : Option ℕ) → value_of places k first q.0 q.1.at ≡ o
+worth_of : (places : ValueAddresses) (by : EntrySetting) (k : FileKind) (first : ℕ) (q : ℕ × InputSymbol) (r : Resolution) (o : Option ℕ) → value_of places k first q.0 q.1.at ≡ o
     → is_wanted k q.0 q.1 (told_flags by k q) ≡ true → option_map (with_entries by q.0 (told_flags by k q)) o ≡ Some r → IsOwn places by k first q r
 worth_of places by k first q r None worth wanted h = absurd (cc)
 worth_of places by k first q r (Some n) worth wanted h =
     let same : r ≡ with_entries by q.0 (told_flags by k q) n = cc in
     record { wanted = wanted; value = n; worth = worth; is = same }
 
-pub own_one : (places : Places) (by : EntrySetting) (k : FileKind) (first : ℕ) (q : ℕ × InputSymbol) (r : Resolution) → resolution_of places by k first q ≡ Some r → IsOwn places by k first q r
+pub own_one : (places : ValueAddresses) (by : EntrySetting) (k : FileKind) (first : ℕ) (q : ℕ × InputSymbol) (r : Resolution) → resolution_of places by k first q ≡ Some r → IsOwn places by k first q r
 own_one places by k first q r h =
     elim (is_wanted k q.0 q.1 (told_flags by k q)) as (λ b. is_wanted k q.0 q.1 (told_flags by k q) ≡ b → IsOwn places by k first q r) [
       | true ↦ λ wanted. worth_of places by k first q r (value_of places k first q.0 q.1.at) refl wanted (sym (has_own places by k first q wanted) ∙ h)
@@ -183,7 +183,7 @@ own_one places by k first q r h =
     ] refl
 
 -- the value is that of where a symbol is placed, in a file whose symbols the linker doesn't place
-pub own_value : (places : Places) (by : EntrySetting) (k : FileKind) (first : ℕ) (q : ℕ × InputSymbol) → is_internal k ≡ false → is_resolved by.live k q ≡ true
+pub own_value : (places : ValueAddresses) (by : EntrySetting) (k : FileKind) (first : ℕ) (q : ℕ × InputSymbol) → is_internal k ≡ false → is_resolved by.live k q ≡ true
     → option_map (λ r. r.raw_value) (resolution_of places by k first q) ≡ Some (placed_value places first q.0 q.1.at)
 unfolding with_entries
 own_value places by k first q external resolved =

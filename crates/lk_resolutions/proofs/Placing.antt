@@ -43,7 +43,7 @@ use Rattle.lk_deltas.specs.LinkDeletions.{Deletions, output_offset, size_after, 
 use Rattle.lk_sizes.proofs.Placed.{ends_within, size-le}
 use Rattle.lk_resolutions.specs.Starts.{TakeTheirBytes, starts_of}
 use Rattle.lk_resolutions.specs.Entries.{entry_setting}
-use Rattle.lk_resolutions.specs.Resolutions.{Places, address_at, file_resolutions, images_at, merged_value, symbol_resolutions}
+use Rattle.lk_resolutions.specs.Resolutions.{ValueAddresses, address_at, file_resolutions, images_at, merged_value, symbol_resolutions}
 use Rattle.lk_resolutions.specs.Tables.{AllStandInside, StandsInside, common_in, place_in}
 use Rattle.lk_resolutions.proofs.CommonsFound.{places_with, resolutions_alike}
 
@@ -187,9 +187,9 @@ pub resolutions_by : (filling : Filling) (deletions : Deletions) (edges : Edges)
     → items ≡ symbol_resolutions filling deletions edges starts
 resolutions_by filling deletions edges starts own addresses buckets commons told items is_table is_commons is_told is_own is_merged made =
     let link : LinkInput = filling.content.link in
-    let all : Places → List Bool → List ℕ → List (Option Resolution)
+    let all : ValueAddresses → List Bool → List ℕ → List (Option Resolution)
     = λ places ts ss. flat_map (file_resolutions places (entry_setting filling.content.sizes link filling.content.live ts ss)) (numbered_files link.groups) in
-    let both : (ℕ → ℕ → Option ℕ) → List CommonAddress → (ℕ → ℕ) → Places = λ place cs values. record { live = place; common = λ p s. common_in cs s; merged = values; edges = edges } in
+    let both : (ℕ → ℕ → Option ℕ) → List CommonAddress → (ℕ → ℕ) → ValueAddresses = λ place cs values. record { live = place; common = λ p s. common_in cs s; merged = values; edges = edges } in
     let place : place_in link.groups deletions filling.content.live.marks addresses ≡ address_at filling deletions starts
     = ap (place_in link.groups deletions filling.content.live.marks) is_table ∙ places_are filling deletions starts in
     let values : ℕ → ℕ = merged_value link (image_start buckets) in

@@ -11,11 +11,11 @@ use Rattle.lk_resolutions.specs.declared.resolution.FileAtHand.{FileAtHand}
 use Rattle.lk_resolutions.specs.declared.resolution.Tables.{Tables}
 use Rattle.lk_resolutions.specs.Entries.{EntrySetting, entry_setting}
 use Rattle.lk_resolutions.specs.EntryWords.{TablesFit}
-use Rattle.lk_resolutions.specs.Resolutions.{Places, merged_value}
+use Rattle.lk_resolutions.specs.Resolutions.{ValueAddresses, merged_value}
 use Rattle.lk_resolutions.specs.Tables.{AllStandInside, AreMergedOf, AreRising, StandsInside, common_in, place_in}
 
 -- what values go by
-abbrev pub places_at_hand : Tables → Places
+abbrev pub places_at_hand : Tables → ValueAddresses
 places_at_hand t = record {
   live = place_in t.merged.link.now.groups t.deltas.now t.live.now.marks t.addresses.now;
   common = λ p s. common_in t.commons.now s;

@@ -8,7 +8,7 @@ use Rattle.lk_live.specs.ByGroups.{files_in}
 use Rattle.lk_resolutions.specs.declared.entries.NextEntries.{NextEntries}
 use Rattle.lk_resolutions.specs.Entries.{EntrySetting}
 use Rattle.lk_resolutions.specs.EntryWords.{AreNextAt}
-use Rattle.lk_resolutions.specs.Resolutions.{Places, file_resolutions}
+use Rattle.lk_resolutions.specs.Resolutions.{ValueAddresses, file_resolutions}
 
 -- the entries of a file's first symbol come next
 abbrev pub AreNextOf : EntrySetting → NumberedFile → NextEntries → Type 0
@@ -19,5 +19,5 @@ abbrev pub AreNextByFile : EntrySetting → List NextEntries → Type 0
 AreNextByFile by starts = AllZip (AreNextOf by) (numbered_files by.link.groups) starts
 
 -- for each symbol of the group with this number its resolution, if it has one
-abbrev pub group_resolutions : Places → EntrySetting → ℕ → List (Option Resolution)
+abbrev pub group_resolutions : ValueAddresses → EntrySetting → ℕ → List (Option Resolution)
 group_resolutions places by g = flat_map (file_resolutions places by) (files_in by.link.groups g)

@@ -60,14 +60,14 @@ merged_value link images s = found_or_0 (merged_address link images s (pos 0) tr
 
 -- what values go by: the addresses at offsets of live input sections, those of commons by part and symbol, the values of symbols in
 -- merged sections, and the edges that symbols stand at which the linker itself places
-pub record Places : Type 0 where
+pub record ValueAddresses : Type 0 where
   pub live : ℕ → ℕ → Option ℕ
   pub common : ℕ → ℕ → ℕ
   pub merged : ℕ → ℕ
   pub edges : Edges
 
 -- those of what fills the parts, by what is deleted, these edges, and where the parts start
-abbrev pub places_of : Filling → Deletions → Edges → List ℕ → Places
+abbrev pub places_of : Filling → Deletions → Edges → List ℕ → ValueAddresses
 places_of filling deletions edges starts = record {
   live = address_at filling deletions starts;
   common = common_address filling starts;
@@ -77,7 +77,7 @@ places_of filling deletions edges starts = record {
 
 -- the value of a placement in an object or a dynamic file, of the symbol s; `first` is the number of the object's first input section: a place in a live
 -- section, or in a merged one; or a number; 0 for what is defined nowhere
-abbrev pub placed_value : Places → ℕ → ℕ → SymbolPlacement → ℕ
+abbrev pub placed_value : ValueAddresses → ℕ → ℕ → SymbolPlacement → ℕ
 placed_value places first s (at.Section index offset) = unwrap_or (places.live (first + index) offset) (places.merged s)
 placed_value places first s (at.Common p size) = places.common p s
 placed_value places first s (at.Absolute n) = n
@@ -85,7 +85,7 @@ placed_value places first s _ = 0
 
 -- what a symbol of a file of a kind is worth by its placement: in the prelude, in scripts and synthetic files what it stands at, if
 -- anything
-abbrev pub value_of : Places → FileKind → ℕ → ℕ → SymbolPlacement → Option ℕ
+abbrev pub value_of : ValueAddresses → FileKind → ℕ → ℕ → SymbolPlacement → Option ℕ
 value_of places kind first s p = if is_internal kind then edge_value places.edges p else Some (placed_value places first s p)
 
 -- ---- resolutions
@@ -95,7 +95,7 @@ abbrev pub has_resolutions : FileKind → Bool
 has_resolutions kind = not (is_not_loaded kind)
 
 -- the resolution of a symbol of such a file, with its number, if it is wanted, late marks included, and is worth anything
-abbrev pub resolution_of : Places → EntrySetting → FileKind → ℕ → ℕ × InputSymbol → Option Resolution
+abbrev pub resolution_of : ValueAddresses → EntrySetting → FileKind → ℕ → ℕ × InputSymbol → Option Resolution
 resolution_of places by kind first q =
     let flags = told_flags by kind q in
     if has_resolutions kind && is_wanted kind q.0 q.1 flags
@@ -103,7 +103,7 @@ resolution_of places by kind first q =
     else None
 
 -- for each symbol of a file its resolution, if it has one
-abbrev pub file_resolutions : Places → EntrySetting → NumberedFile → List (Option Resolution)
+abbrev pub file_resolutions : ValueAddresses → EntrySetting → NumberedFile → List (Option Resolution)
 file_resolutions places by f = map (resolution_of places by f.file.kind (first_input by.link.groups f.id)) (symbols_by_number by.link f)
 
 -- what the entries go by: edges are told of the sections of which headers tell them

@@ -26,8 +26,8 @@ pub fn quiet_states_are_all()
     ensures { QuietStatesAreAll }
 {}
 
-/// A law: in the lists of a well-formed link all that a reached unit asks for is reached, and marks and words inside them, as many as
-/// they have, that are closed are all of them.
+/// A law: in the lists of a well-formed link all that a root or a reached unit asks for is reached, with its flags; and marks and words
+/// that are closed, are inside them, as many as they have, and have what is handed in, are all of them.
 pub fn lists_fit()
     ensures { ListsFit }
 {}

@@ -34,7 +34,7 @@ use Rattle.lk_tables.specs.SymbolEntries.{is_resolved}
 use Rattle.lk_reach.proofs.Numbered.{file_at}
 use Rattle.lk_tables.proofs.ShareSums.{sum_alike}
 use Rattle.lk_resolutions.specs.Entries.{EntrySetting, told_flags, with_entries}
-use Rattle.lk_resolutions.specs.Resolutions.{Places, placed_value, resolution_of}
+use Rattle.lk_resolutions.specs.Resolutions.{ValueAddresses, placed_value, resolution_of}
 use Rattle.lk_resolution_list.specs.Lists.{resolution_at}
 use Rattle.lk_resolution_list.specs.StoreLaws.{ChangesValuesAlone}
 use Rattle.lk_resolution_list.specs.Stores.{valued}
@@ -103,7 +103,7 @@ never true true = refl
 never true false = refl
 never false b = refl
 
-answered : (places : Places) (by : EntrySetting) (k : FileKind) (first : ℕ) (q : ℕ × InputSymbol)
+answered : (places : ValueAddresses) (by : EntrySetting) (k : FileKind) (first : ℕ) (q : ℕ × InputSymbol)
     → IsAnswered k by q (not (is_internal k) || is_some (edge_value places.edges q.1.at)) (resolution_of places by k first q)
 answered places by kind.Object first q = made_of_value by q.0 (told_flags by kind.Object q) (is_wanted kind.Object q.0 q.1 (told_flags by kind.Object q)) (Some (placed_value places first q.0 q.1.at))
 answered places by kind.Dynamic first q = made_of_value by q.0 (told_flags by kind.Dynamic q) (is_wanted kind.Dynamic q.0 q.1 (told_flags by kind.Dynamic q)) (Some (placed_value places first q.0 q.1.at))
@@ -175,7 +175,7 @@ unfolding with_entries
 value_if by s flags true n value is = cc
 value_if by s flags false n value is = absurd (cc)
 
-placed_worth : (places : Places) (by : EntrySetting) (k : FileKind) (first value : ℕ) (q : ℕ × InputSymbol) → is_internal k ≡ false
+placed_worth : (places : ValueAddresses) (by : EntrySetting) (k : FileKind) (first value : ℕ) (q : ℕ × InputSymbol) → is_internal k ≡ false
     → option_map (λ (r : Resolution). r.raw_value) (resolution_of places by k first q) ≡ Some value → value ≡ placed_value places first q.0 q.1.at
 placed_worth places by kind.Object first value q h is =
     value_if by q.0 (told_flags by kind.Object q) (is_wanted kind.Object q.0 q.1 (told_flags by kind.Object q)) (placed_value places first q.0 q.1.at) value is

@@ -47,7 +47,7 @@ use Rattle.lk_deltas.proofs.CandidateLemmas.{gone_again}
 use Rattle.lk_deltas.specs.LinkDeletions.{Deletions, output_offset}
 use Rattle.lk_relax.specs.Positions.{has_position, position_in, section_position, section_positions, symbol_position}
 use Rattle.lk_relax.specs.RelaxedLaws.{RelaxedIsShrunk}
-use Rattle.lk_relax.specs.Scan.{Standing, absolute_value, address_in, outcome_by, ranges_of, site, target, told}
+use Rattle.lk_relax.specs.Scan.{PassState, absolute_value, address_in, outcome_by, ranges_of, site, target, told}
 use Rattle.lk_relax.specs.Sites.{DeletedSitesAreNear}
 use Rattle.lk_relax.specs.Stages.{DeletionsAreRead, IsFirst, IsPass, LeadsTo, Relaxing, Stage, filling_after, is_among, link_of, ranges_behind, standing_at}
 use Rattle.lk_sizes.specs.Addresses.{section_addresses}
@@ -103,7 +103,7 @@ named_at link s d good defined =
     at_index (numbered_symbols groups) d (omega (arith, numbered_count groups, symbols_length groups, slice_get_within (all_symbols groups) d x.0 x.1))
 
 -- a target is that of its symbol
-abbrev target_by : Standing → ℕ → FileId → SymbolPlacement → Option ℕ
+abbrev target_by : PassState → ℕ → FileId → SymbolPlacement → Option ℕ
 target_by by d id p =
     if has_flag flag.INTERPOSABLE.0 (flags_at by.live.flags d).0 then None
     else first_some (absolute_value p) (option_and_then (λ q. address_in by.parts q.part q.offset) (symbol_position by.link.groups by.deletions by.sections id p))

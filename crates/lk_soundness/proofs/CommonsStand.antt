@@ -30,7 +30,7 @@ use Rattle.lk_layout.specs.LayoutRecord.{LayoutRecord}
 use Rattle.lk_link.specs.declared.resolution.Resolution.{Resolution}
 use Rattle.lk_resolutions.specs.Starts.{starts_of}
 use Rattle.lk_resolutions.specs.Entries.{EntrySetting}
-use Rattle.lk_resolutions.specs.Resolutions.{Places, placed_value, resolution_of}
+use Rattle.lk_resolutions.specs.Resolutions.{ValueAddresses, placed_value, resolution_of}
 use Rattle.lk_resolution_list.specs.Lists.{resolution_at}
 use Rattle.lk_soundness.specs.Sound.{part_record}
 use Rattle.lk_soundness.proofs.Stands.{CommonsStand}
@@ -65,7 +65,7 @@ value_told made layout p s size c told object =
     let x : InputSymbol = c.symbol in
     let file : InputFile = c.file.file in
     let first : ℕ = first_input made.link.groups c.file.id in
-    let places : Places = made_at made in
+    let places : ValueAddresses = made_at made in
     let by : EntrySetting = made_entries made in
     let raw : Option Resolution → Option ℕ = option_map (λ (r : Resolution). r.raw_value) in
     let read : resolution_at layout.symbol_resolutions s ≡ resolution_of places by file.kind first (s, x)

@@ -58,7 +58,7 @@ use Rattle.lk_soundness.proofs.Stands.{EntriesStand, TablesStandAlone}
 use Rattle.lk_layout.proofs.LaidOut.{IsLaidOut, made_by}
 use Rattle.lk_soundness.proofs.Resolving.{as_many, made_at, made_entries}
 use Rattle.lk_resolutions.specs.Entries.{EntrySetting, entry_in, got_table, plt_table, told_flags, with_entries}
-use Rattle.lk_resolutions.specs.Resolutions.{Places, file_resolutions, has_resolutions, resolution_of, value_of}
+use Rattle.lk_resolutions.specs.Resolutions.{ValueAddresses, file_resolutions, has_resolutions, resolution_of, value_of}
 use Rattle.lk_resolution_list.specs.Lists.{resolution_at}
 use Rattle.lk_resolutions.specs.Starts.{starts_of}
 use Rattle.lk_resolution_list.specs.StoreLaws.{ChangesValuesAlone}
@@ -97,7 +97,7 @@ asked_of false c f o r h = absurd (cc)
 symbol_of : (made : Made) (s : ℕ) (r : Resolution) → resolution_at (placed_resolutions made) s ≡ Some r → HasSymbol made s r
 symbol_of made s r h =
     let groups = made.link.groups in
-    let places : Places = made_at made in
+    let places : ValueAddresses = made_at made in
     let by : EntrySetting = made_entries made in
     let files : List NumberedFile = numbered_files groups in
     let of_file : NumberedFile → List (Option Resolution) = file_resolutions places by in

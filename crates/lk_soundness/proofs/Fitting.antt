@@ -15,7 +15,7 @@ use Rattle.lk_merge.specs.LinkInputs.{link_inputs}
 use Rattle.lk_merge.proofs.AddressLemmas.{are_starts}
 use Rattle.lk_place.specs.declared.error.Refusal.{Refusal}
 use Rattle.lk_place.specs.InRegions.{past_region, stands_in}
-use Rattle.lk_place.specs.PlacedBefore.{Standing}
+use Rattle.lk_place.specs.PlacedBefore.{PlacedRecords}
 use Rattle.lk_place.specs.Placement.{either_refusal, event_refusal, known_before, load_given, load_refusal, numbered, placing_refusal, refusal_behind_move, section_left, section_overflow, section_refusal, state_at}
 use Rattle.lk_place.specs.PlacementLaws.{PartsTakeTheirBytes}
 use Rattle.lk_place_laws.specs.PlacementLaws.{RefusedExactlyPast}
@@ -50,7 +50,7 @@ part_fits refused machine link layout laid p within =
     let early : event.0 + 1 < length laid.stage.states = omega (arith, laid.stands.placed.ends laid.unrefused, slice_get_within link.plan.events event.0 (Section t) event.1) in
     let step = laid.stands.placed.steps event.0 (Section t) early event.1 in
     let none = no_refusal event.0 (event_refusal s (known_before s laid.stage.states laid.stage.records event.0) (Section t) (state_at laid.stage.states event.0)) step.unrefused in
-    let standing : Standing = (known_before s laid.stage.states laid.stage.records event.0).standing in
+    let standing : PlacedRecords = (known_before s laid.stage.states laid.stage.records event.0).standing in
     let unrefused : section_refusal s standing (Some t) step.steps.entered ≡ None = ap (refusal_behind_move s standing (Some t)) (sym step.steps.moves) ∙ none in
     let placing : placing_refusal s standing t step.steps.entered ≡ None
     = first_none (placing_refusal s standing t step.steps.entered) (past_region s (stands_in s.plan t) (section_left s t step.steps.entered).memory) unrefused in

@@ -47,7 +47,7 @@ use Rattle.lk_link.specs.declared.resolution.Resolution.{Resolution}
 use Rattle.lk_resolutions.specs.Starts.{starts_of}
 use Rattle.lk_resolutions.specs.Outside.{merge_offsets, relocations_outside, symbol_outside, symbols_outside}
 use Rattle.lk_resolutions.specs.Entries.{EntrySetting}
-use Rattle.lk_resolutions.specs.Resolutions.{Places, found_or_0, images_at, placed_value}
+use Rattle.lk_resolutions.specs.Resolutions.{ValueAddresses, found_or_0, images_at, placed_value}
 use Rattle.lk_soundness.specs.Laws.{IsResolvedIn}
 use Rattle.lk_layout.proofs.LaidOut.{IsLaidOut, made_by}
 use Rattle.lk_resolutions.proofs.Placing.{unmerged}
@@ -160,7 +160,7 @@ shown_in_file machine link layout laid objects id file i offset section there r 
     let answer : (ℕ → ℕ) → Bool → Result (Option ℕ) OffsetPastEnd = λ from zero_unnamed. place_address link from (pos 0) zero_unnamed (Some place) in
     let found : (from : ℕ → ℕ) (zero_unnamed : Bool) → answer from zero_unnamed ≡ Ok (Some (plus_addend (from t + n) (pos 0)))
     = λ from zero_unnamed. ap (λ b. option_map_or (λ a. Ok (Some (plus_addend a (pos 0)))) (cond b (Some (from t + n)) None) (Err past_end)) (lt-ltb offset (length section.bytes) inside) in
-    let places : Places = made_at (made_by laid) in
+    let places : ValueAddresses = made_at (made_by laid) in
     let by : EntrySetting = made_entries (made_by laid) in
     let none : places.live (first + i) offset ≡ None
     = ap (λ b. if b then option_map (λ z. live_address (made_filling (made_by laid)) starts z + output_offset groups (made_deletions (made_by laid)) z.file z.index offset) (slice_get (all_inputs groups) (first + i)) else None) (not_live link live (first + i) input laid.are_live at_input merged) in

@@ -15,7 +15,7 @@ use Rattle.lk_link.proofs.InputLemmas.{inputs_follow}
 use Rattle.lk_merge.specs.OutputAddresses.{MergePlace, place_address, symbol_place}
 use Rattle.lk_deltas.specs.LinkDeletions.{output_offset}
 use Rattle.lk_sizes.specs.PartOwners.{live_address}
-use Rattle.lk_resolutions.specs.Resolutions.{Places, found_or_0, images_at, placed_value}
+use Rattle.lk_resolutions.specs.Resolutions.{ValueAddresses, found_or_0, images_at, placed_value}
 use Rattle.lk_resolutions.specs.Starts.{starts_of}
 use Rattle.lk_resolution_list.specs.StoreLaws.{ChangesValuesAlone}
 use Rattle.lk_layout.specs.Defined.{layout_of}
@@ -28,7 +28,7 @@ use Rattle.lk_soundness.proofs.NamedSymbols.{Stands, names, not_live, place_of}
 use Rattle.lk_soundness.proofs.Resolving.{made_at}
 
 -- one that stands nowhere is worth its number
-number_is : (places : Places) (first s n : ℕ) (p : SymbolPlacement) → number_of p ≡ Some n → placed_value places first s p ≡ n
+number_is : (places : ValueAddresses) (first s n : ℕ) (p : SymbolPlacement) → number_of p ≡ Some n → placed_value places first s p ≡ n
 number_is places first s n (at.Section i offset) h = absurd (cc)
 number_is places first s n (at.Common p size) h = absurd (cc)
 number_is places first s n (at.Absolute m) h = cc
@@ -48,7 +48,7 @@ unnamed_is : (made : Made) (s i offset k : ℕ) (id : FileId) (file : InputFile)
     → Stands made.link id file i offset k x section true → s ≡ first_symbol made.link.groups id + k → placed_value (made_at made) (first_input made.link.groups id) s x.at ≡ 0
 unnamed_is made s i offset k id file x section are h number =
     let groups = made.link.groups in
-    let places : Places = made_at made in
+    let places : ValueAddresses = made_at made in
     let first : ℕ = first_input groups id in
     let place : MergePlace = place_of made.link id i offset section true in
     let input : Input = record { file = id; index = i; section = section } in

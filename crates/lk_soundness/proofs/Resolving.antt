@@ -29,13 +29,13 @@ use Rattle.lk_layout.specs.LayoutRecord.{LayoutRecord}
 use Rattle.lk_layout.specs.Made.{Made, made_deletions, made_filling}
 use Rattle.lk_layout.specs.Redirects.{made_edges, placed_resolutions}
 use Rattle.lk_resolutions.specs.Entries.{EntrySetting, told_flags, with_entries}
-use Rattle.lk_resolutions.specs.Resolutions.{Places, entries_of, file_resolutions, placed_value, places_of, resolution_of}
+use Rattle.lk_resolutions.specs.Resolutions.{ValueAddresses, entries_of, file_resolutions, placed_value, places_of, resolution_of}
 use Rattle.lk_resolution_list.specs.Lists.{resolution_at}
 use Rattle.lk_resolutions.specs.Starts.{starts_of}
 use Rattle.lk_resolution_list.specs.StoreLaws.{ChangesValuesAlone}
 
 -- what the values of a layout go by, and its entries
-abbrev pub made_at : Made → Places
+abbrev pub made_at : Made → ValueAddresses
 made_at made = places_of (made_filling made) (made_deletions made) (made_edges made) (starts_of made.stage.records)
 
 abbrev pub made_entries : Made → EntrySetting
@@ -44,7 +44,7 @@ made_entries made = entries_of (made_filling made) (starts_of made.stage.records
 -- ---- the resolution of a file's symbol
 
 -- each symbol of a file has its place among the file's
-pub as_many : (places : Places) (by : EntrySetting) (f : NumberedFile) → length (file_resolutions places by f) ≡ symbols_in f.file
+pub as_many : (places : ValueAddresses) (by : EntrySetting) (f : NumberedFile) → length (file_resolutions places by f) ≡ symbols_in f.file
 as_many places by f =
     length-map (symbols_by_number by.link f) (resolution_of places by f.file.kind (first_input by.link.groups f.id))
     ∙ length-enumerate_from (first_symbol by.link.groups f.id) f.file.symbols
@@ -55,7 +55,7 @@ pub placed_is : (made : Made) (id : FileId) (file : InputFile) (k : ℕ) (x : In
     ≡ resolution_of (made_at made) (made_entries made) file.kind (first_input made.link.groups id) (first_symbol made.link.groups id + k, x)
 placed_is made id file k x there at_k =
     let groups = made.link.groups in
-    let place : Places = made_at made in
+    let place : ValueAddresses = made_at made in
     let by : EntrySetting = made_entries made in
     let f : NumberedFile = record { id = id; file = file } in
     let n : ℕ = file_number groups id in
@@ -92,7 +92,7 @@ raw_if true by s flags value = raw_value by s flags value
 raw_if false by s flags value = refl
 
 -- what is resolved of an object has the value of where it is placed
-pub object_value : (places : Places) (by : EntrySetting) (k : FileKind) (first : ℕ) (q : ℕ × InputSymbol) → is_object k ≡ true → is_resolved by.live k q ≡ true
+pub object_value : (places : ValueAddresses) (by : EntrySetting) (k : FileKind) (first : ℕ) (q : ℕ × InputSymbol) → is_object k ≡ true → is_resolved by.live k q ≡ true
     → option_map (λ (r : Resolution). r.raw_value) (resolution_of places by k first q) ≡ Some (placed_value places first q.0 q.1.at)
 object_value places by kind.Object first q h resolved =
     raw_if (is_resolved by.live kind.Object q) by q.0 (flags_at by.live.flags q.0) (Some (placed_value places first q.0 q.1.at))
@@ -104,7 +104,7 @@ object_value places by kind.SyntheticSymbols first q h resolved = absurd (cc)
 object_value places by kind.LinkerScript first q h resolved = absurd (cc)
 
 -- a symbol of the linker's own, where it is wanted, is worth what it stands at, if anything
-pub internal_value : (places : Places) (by : EntrySetting) (k : FileKind) (first : ℕ) (q : ℕ × InputSymbol) → is_internal k ≡ true
+pub internal_value : (places : ValueAddresses) (by : EntrySetting) (k : FileKind) (first : ℕ) (q : ℕ × InputSymbol) → is_internal k ≡ true
     → option_map (λ (r : Resolution). r.raw_value) (resolution_of places by k first q)
     ≡ (if is_wanted k q.0 q.1 (told_flags by k q) then edge_value places.edges q.1.at else None)
 internal_value places by kind.Object first q h = absurd (cc)

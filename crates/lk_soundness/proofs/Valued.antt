@@ -20,7 +20,7 @@ use Rattle.lk_soundness.proofs.Resolving.{made_at, made_entries, object_value}
 use Rattle.lk_soundness.proofs.Stands.{ValuesStand}
 use Rattle.lk_resolution_list.specs.StoreLaws.{ChangesValuesAlone}
 use Rattle.lk_resolutions.specs.Entries.{EntrySetting}
-use Rattle.lk_resolutions.specs.Resolutions.{Places, address_at, placed_value}
+use Rattle.lk_resolutions.specs.Resolutions.{ValueAddresses, address_at, placed_value}
 use Rattle.lk_resolutions.specs.Starts.{starts_of}
 
 pub values_stand : OthersAreNoRedirects → (made : Made) → ChangesValuesAlone made.link.groups (placed_resolutions made) (made_resolutions made) → SymbolsStandInLiveSections made.link made.live
@@ -40,7 +40,7 @@ values_stand others made changed placed s i offset f x section is unmerged =
     let address : address_at filling (made_deletions made) starts k offset ≡ Some place
     = ap (λ b. if b then option_map moved (slice_get (all_inputs groups) k) else None) set ∙ ap (option_map moved) at_k
     ∙ ap (λ (m : ℕ). Some (m + output_offset groups (made_deletions made) f.id i offset)) (sym (table_at filling starts k input at_k set)) in
-    let places : Places = made_at made in
+    let places : ValueAddresses = made_at made in
     let by : EntrySetting = made_entries made in (
       set,
       ap (option_map (λ (r : Resolution). r.raw_value)) (told_at_number others made changed s f x of (object_outside f.file.kind is.object))

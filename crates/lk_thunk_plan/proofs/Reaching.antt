@@ -16,7 +16,7 @@ use Rattle.lk_thunks.specs.declared.reach.BranchSite.{BranchSite}
 use Rattle.lk_thunks.specs.Reach.{is_near, reaches}
 use Rattle.lk_thunk_plan.specs.declared.check.BranchPlace.{BranchPlace}
 use Rattle.lk_thunk_plan.specs.BranchLaws.{AreNear, BranchesReach}
-use Rattle.lk_thunk_plan.specs.Branches.{Standing, file_unreached, is_reaching, relocation_unreached, section_unreached, standing_of, thunk_in}
+use Rattle.lk_thunk_plan.specs.Branches.{BranchOrigin, file_unreached, is_reaching, relocation_unreached, section_unreached, standing_of, thunk_in}
 
 -- where nothing comes of all, nothing comes of each
 nothing_of : {X Y : Type 0} (f : X → List Y) (xs : List X) (k : ℕ) (x : X) → flat_map f xs ≡ [] → slice_get xs k ≡ Some x → f x ≡ []
@@ -61,7 +61,7 @@ pub branches_reach : BranchesReach
 branches_reach by none config id file i k r target some b goes =
     let groups = by.link.groups in
     let f : NumberedFile = record { id = id; file = file } in
-    let standing : Standing = standing_of by id (i, b.section) in
+    let standing : BranchOrigin = standing_of by id (i, b.section) in
     let d : ℕ = local_definition (first_symbol groups id) file.symbols r.symbol in
     let of_files : flat_map (file_unreached by config) (numbered_files groups) ≡ []
     = sym (ap (λ (o : Option ThunkConfig). option_map_or (λ c. flat_map (file_unreached by c) (numbered_files groups)) o []) some) ∙ none in

@@ -11,7 +11,7 @@ use Rattle.lk_thunks.specs.SetLaws.{IsRising}
 use Rattle.lk_thunk_plan.specs.declared.check.Branches.{Branches}
 use Rattle.lk_thunk_plan.specs.declared.check.BranchFile.{BranchFile}
 use Rattle.lk_thunk_plan.specs.declared.check.Spot.{Spot}
-use Rattle.lk_thunk_plan.specs.Branches.{Branching, Standing, block_of, branching}
+use Rattle.lk_thunk_plan.specs.Branches.{Branching, BranchOrigin, block_of, branching}
 
 -- what branches go by, as contracts see it
 abbrev pub branching_of : Branches → Branching
@@ -26,7 +26,7 @@ pub record IsAtHand (by : Branching) (x : BranchFile) : Type 0 where
   pub entries : option_copied x.entries ≡ slice_get by.deletions (file_number by.link.groups x.file.id)
 
 -- where the branches of a section stand, as contracts see it
-abbrev pub standing_at : Spot → Standing
+abbrev pub standing_at : Spot → BranchOrigin
 standing_at spot = record {
   address = spot.address;
   deleted = option_copied spot.deleted;

@@ -106,13 +106,13 @@ abbrev pub thunk_in : ℕ → ℕ → ℕ × List ℕ → Option ℕ
 thunk_in size d block = option_map (λ rank. block.0 + rank * size) (position (λ s. s == d) block.1)
 
 -- where the branches of a section stand: its address, what is deleted of it, and the thunks by which they may go
-pub record Standing : Type 0 where
+pub record BranchOrigin : Type 0 where
   pub address : ℕ
   pub deleted : Option (List (ℕ × ℕ))
   pub thunks : Option (ℕ × List ℕ)
 
 -- that of a section of a file, with its index there
-abbrev pub standing_of : Branching → FileId → ℕ × InputSection → Standing
+abbrev pub standing_of : Branching → FileId → ℕ × InputSection → BranchOrigin
 standing_of by id q = record {
   address = slice_index by.addresses (input_number by.link.groups id q.0);
   deleted = deleted_of by.link.groups by.deletions id q.0;
@@ -123,7 +123,7 @@ standing_of by id q = record {
 
 -- whether a branch at an offset of such a section reaches a definition, or the thunk for it, from where the offset goes by what is
 -- deleted; one whose target isn't known does
-abbrev pub is_reaching : ThunkConfig → List (Option Resolution) → Standing → ℕ → ℕ → Bool
+abbrev pub is_reaching : ThunkConfig → List (Option Resolution) → BranchOrigin → ℕ → ℕ → Bool
 is_reaching config resolutions standing offset d =
     option_map_or (λ target. reaches config.min_branch_range (record {
       site = standing.address + mapped_by standing.deleted offset;
@@ -136,7 +136,7 @@ abbrev pub goal_of : LinkInput → NumberedFile → Relocation → ℕ
 goal_of link f r = local_definition (first_symbol link.groups f.id) f.file.symbols r.symbol
 
 -- a relocation with its index in its section, where a thunk may stand in for it and it doesn't reach
-abbrev pub relocation_unreached : Branching → ThunkConfig → NumberedFile → ℕ → Standing → ℕ × Relocation → List BranchPlace
+abbrev pub relocation_unreached : Branching → ThunkConfig → NumberedFile → ℕ → BranchOrigin → ℕ × Relocation → List BranchPlace
 relocation_unreached by config f section standing q =
     if q.1.thunkable && not (is_reaching config by.resolutions standing q.1.offset (goal_of by.link f q.1))
     then record { file = f.id; section = section; relocation = q.0 } ∷ []

@@ -312,7 +312,7 @@ impl<J: Reach> GroupState<J> {
 
     /// Activates the group, or takes an item of its own, and does all that it asks for; answers whether there was either. Without
     /// memory the rest of those asks is given up, or the item, and nothing else. Its own items are units of
-    /// the group that are reached, as the laws on steps ask (libwild: `GroupState::do_pending_work`).
+    /// the group that are reached (libwild: `GroupState::do_pending_work`).
     pub fn step<R: Wait>(
         &mut self,
         traversal: &Traversal<'_, J>,

@@ -101,14 +101,14 @@ fn comma_before(text: &[u8], index: usize) -> Option<usize> {
     }
 }
 
-/// Cuts between groups or files, into pieces of so many bytes or a few less, and what is left of the file there; a cut between groups is
-/// preferred where there is one near.
+/// Cuts between groups or files, into pieces of so many bytes or more, but for a bracket and blanks before the comma; a cut between
+/// groups is preferred where there is one near.
 #[derive(Clone, Copy, Debug)]
 pub(crate) struct Cuts {
     pub(crate) size: usize,
 }
 
-/// Where the first group begins that does near this index.
+/// How many bytes stand before the comma in front of the first group that begins at this index or near behind it.
 fn near_group(text: &[u8], index: usize) -> Option<usize> {
     let end = index.saturating_add(index / NEAR).min(text.len());
     for found in memmem::find_iter(text.get(index..end)?, OBJECTS) {
@@ -120,7 +120,7 @@ fn near_group(text: &[u8], index: usize) -> Option<usize> {
     None
 }
 
-/// Where the first group or file begins behind this index.
+/// How many bytes stand before the comma in front of the first group or file that begins at this index or behind it.
 fn next_file(text: &[u8], index: usize) -> Option<usize> {
     for found in memmem::find_iter(text.get(index..)?, OBJECT) {
         let comma = comma_before(text, index.checked_add(found)?);

@@ -4,7 +4,7 @@ use Rattle.lk_link.specs.declared.resolution.Resolution.{Resolution}
 use Rattle.lk_link.specs.declared.symbol.InputSymbol.{InputSymbol}
 use Rattle.lk_resolutions.specs.AtHand.{places_at_hand, setting_at_hand}
 use Rattle.lk_resolutions.specs.Entries.{EntrySetting}
-use Rattle.lk_resolutions.specs.Resolutions.{Places}
+use Rattle.lk_resolutions.specs.Resolutions.{ValueAddresses}
 use Rattle.lk_resolution_list.specs.Stores.{valued}
 use Rattle.lk_resolutions.proofs.EntriesTaken.{placed_is}
 use Rattle.lk_resolutions.proofs.resolution.resolve.Goals as goal
@@ -12,7 +12,7 @@ use Rattle.lk_resolutions.proofs.resolution.resolve.Goals as goal
 pub returns-clause-value : goal.returns-clause-value
 returns-clause-value g c =
     let by : EntrySetting = setting_at_hand (g.P.Platform.table_sizes c.args.platform.now) c.args.tables.now in
-    let places : Places = places_at_hand c.args.tables.now in
+    let places : ValueAddresses = places_at_hand c.args.tables.now in
     let q : ℕ × InputSymbol = (c.args.number, c.args.symbol.now) in
     let with_value : Option ℕ → Option Resolution → Option Resolution = λ value taken. option_and_then (λ r. option_map (λ n. valued n r) value) taken in
     sym (placed_is places by c.args.at_hand.now.file.file.now.kind c.args.at_hand.now.first_input q

@@ -11,7 +11,7 @@ use Rattle.lk_link.proofs.GoodInputs.{lists_of}
 use Rattle.lk_reach.proofs.SymbolNumbers.{first_within, inputs_few, relocations_from, sections_few}
 use Rattle.lk_stops.proofs.Stopping.{all_gone, exit, one_more, stops_at}
 use Rattle.lk_thunk_plan.specs.declared.check.BranchPlace.{BranchPlace}
-use Rattle.lk_thunk_plan.specs.Branches.{Branching, Standing, relocation_unreached, standing_of}
+use Rattle.lk_thunk_plan.specs.Branches.{Branching, BranchOrigin, relocation_unreached, standing_of}
 use Rattle.lk_thunk_plan.specs.BranchWords.{branching_of, standing_at}
 use Rattle.lk_thunk_plan.proofs.check.check_section.Goals as goal
 
@@ -43,15 +43,15 @@ returns-in_err-check_relocation c =
     let by : Branching = branching_of c.args.by.now in
     let spot : standing_at c.spot_of-spot.result ≡ standing_of by c.args.at.now.file.id (c.args.index, c.args.section.now)
     = c.spot_of-spot.ensures.spot in
-    let f : Standing → ℕ × Relocation → List BranchPlace = relocation_unreached by c.args.config.now (file_of c.args.at.now.file) c.args.index in
+    let f : BranchOrigin → ℕ × Relocation → List BranchPlace = relocation_unreached by c.args.config.now (file_of c.args.at.now.file) c.args.index in
     let relocs : List Relocation = c.args.section.now.relocs in
     let all : List BranchPlace = flat_map (f (standing_of by c.args.at.now.file.id (c.args.index, c.args.section.now))) (enumerate_from 0 relocs) in
     let regular : is_regular c.args.section.now.slot ≡ true = sym c.is_regular.ensures ∙ c.if-not-is_regular.false in
     let live : is_marked by.live.marks (input_number by.link.groups c.args.at.now.file.id c.args.index) ≡ true
     = ap (is_marked by.live.marks) (sym (ap (λ (n : ℕ). n + c.args.index) c.requires.file.start)) ∙ ap (λ ms. is_marked ms (c.args.at.now.start + c.args.index)) (sym c.as_slice.ensures) ∙ sym c.is_marked.ensures ∙ c.if-not-is_marked.false in
-    let so_far = ap (λ (s : Standing). flat_map (f s) (take c.loop-place.place (enumerate_from 0 relocs))) spot ∙ c.loop-place.invariant in
+    let so_far = ap (λ (s : BranchOrigin). flat_map (f s) (take c.loop-place.place (enumerate_from 0 relocs))) spot ∙ c.loop-place.invariant in
     let first : slice_get all 0 ≡ Some c.in_err-check_relocation.field-0.0
-    = ap (λ (s : Standing). slice_get (flat_map (f s) (enumerate_from 0 relocs)) 0) (sym spot)
+    = ap (λ (s : BranchOrigin). slice_get (flat_map (f s) (enumerate_from 0 relocs)) 0) (sym spot)
     ∙ stops_at (f (standing_at c.spot_of-spot.result)) 0 relocs c.as_slice-relocation-items.result.now c.loop-place.place c.loop-place.place _ _ c.as_slice-relocation-items.ensures c.loop-place-test.true (omega arith)
     so_far c.in_err-check_relocation.ensures in
     exit _ _ c.from_residual.result c.from_residual.ensures.1 (λ e is.
@@ -63,10 +63,10 @@ loop-place-preserved c =
     let by : Branching = branching_of c.args.by.now in
     let spot : standing_at c.spot_of-spot.result ≡ standing_of by c.args.at.now.file.id (c.args.index, c.args.section.now)
     = c.spot_of-spot.ensures.spot in
-    let f : Standing → ℕ × Relocation → List BranchPlace = relocation_unreached by c.args.config.now (file_of c.args.at.now.file) c.args.index in
+    let f : BranchOrigin → ℕ × Relocation → List BranchPlace = relocation_unreached by c.args.config.now (file_of c.args.at.now.file) c.args.index in
     let relocs : List Relocation = c.args.section.now.relocs in
-    let so_far = ap (λ (s : Standing). flat_map (f s) (take c.loop-place.place (enumerate_from 0 relocs))) spot ∙ c.loop-place.invariant in
-    ap (λ (s : Standing). flat_map (f s) (take (c.loop-place.place + 1) (enumerate_from 0 relocs))) (sym spot)
+    let so_far = ap (λ (s : BranchOrigin). flat_map (f s) (take c.loop-place.place (enumerate_from 0 relocs))) spot ∙ c.loop-place.invariant in
+    ap (λ (s : BranchOrigin). flat_map (f s) (take (c.loop-place.place + 1) (enumerate_from 0 relocs))) (sym spot)
     ∙ one_more (f (standing_at c.spot_of-spot.result)) 0 relocs c.as_slice-relocation-items.result.now c.loop-place.place c.loop-place.place _ c.as_slice-relocation-items.ensures c.loop-place-test.true (omega arith)
     so_far c.in_ok-check_relocation.ensures
 

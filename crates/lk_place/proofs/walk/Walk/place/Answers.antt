@@ -1,6 +1,6 @@
 use Rattle.std.proofs.Common.{◌∙◌, ℕ, Option, ap, sym}
 use Rattle.lk_link.specs.Inside.{placed_section}
-use Rattle.lk_place.specs.PlacedBefore.{Standing, standing_before}
+use Rattle.lk_place.specs.PlacedBefore.{PlacedRecords, standing_before}
 use Rattle.lk_place.specs.Placement.{section_refusal}
 use Rattle.lk_place.specs.Setting.{Setting}
 use Rattle.lk_place.specs.Walk.{left_behind, setting_in, unless}
@@ -10,6 +10,6 @@ use Rattle.lk_place.proofs.walk.Walk.place.Goals as goal
 pub returns-in_ok-behind-in-Section-clause-ends : goal.returns-in_ok-behind-in-Section-clause-ends
 returns-in_ok-behind-in-Section-clause-ends g c =
     let setting : Setting = setting_in g.P.Platform.segment_start c.args.self.now in
-    let standing : Standing = standing_before setting.plan c.args.records.now c.args.number in
+    let standing : PlacedRecords = standing_before setting.plan c.args.records.now c.args.number in
     region_left setting standing c.in-Section.section c.args.from c.in_ok-behind-in-Section.behind c.leave_region.result c.in_ok-behind-in-Section.ensures.ends c.leave_region.ensures.ends
     ∙ ap (λ (o : Option ℕ). unless (section_refusal setting standing o c.args.from) (left_behind setting o c.args.from)) (sym (ap placed_section c.in-Section.is))
