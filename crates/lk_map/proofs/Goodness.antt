@@ -13,10 +13,10 @@ use Rattle.lk_map.specs.declared.map_text.SectionLine.{SectionLine}
 use Rattle.lk_map.specs.declared.map_text.SegmentLine.{SegmentLine}
 use Rattle.lk_map.specs.declared.spans.Span.{Span}
 use Rattle.lk_map.specs.Checking.{first_outside, first_overflow, holds, is_outside, is_within, needs_segment, section_overflows, segment_overflows, Judges}
-use Rattle.lk_map.specs.Good.{GoodMapsAreCongruent, IsGood, TellsGood}
+use Rattle.lk_map.specs.Good.{GoodMapsAreCongruent, IsGood, IsHeldBy, TellsGood}
 use Rattle.lk_map.specs.Spans.{AreApart, counts_in_file, counts_in_memory, file_spans, FindsOverlap, is_allocated, is_set, IsBefore, memory_spans, Overlaps}
 
--- ---- what is spanned, and what is held
+-- ---- what is spanned
 
 -- the range of a section in memory, with its line
 abbrev pub memory_span : SectionLine → Span
@@ -25,14 +25,6 @@ memory_span s = record { start = s.mem_offset; line = s.line; size = s.mem_size 
 -- in the file
 abbrev pub file_span : SectionLine → Span
 file_span s = record { start = s.file_offset; line = s.line; size = s.file_size }
-
--- a segment holds a section: what `holds` tests
-pub record IsHeldBy (g : SegmentLine) (s : SectionLine) : Type 0 where
-  pub memory_from : g.mem_offset ≤ s.mem_offset
-  pub memory_to : s.mem_offset + s.mem_size ≤ g.mem_offset + g.mem_size
-  pub file_from : g.file_offset ≤ s.file_offset
-  pub file_to : s.file_offset + s.file_size ≤ g.file_offset + g.file_size
-  pub distance : g.mem_offset + s.file_offset ≡ s.mem_offset + g.file_offset
 
 -- ---- what is found, and what isn't
 
@@ -217,6 +209,7 @@ within_parts start size outer bytes h =
 within_whole : (start size outer bytes : ℕ) → outer ≤ start → start + size ≤ outer + bytes → is_within start size outer bytes ≡ true
 within_whole start size outer bytes h k = and_whole (is_le outer start h) (is_le (start + size) (outer + bytes) k)
 
+-- what the check tests is so, and where it is so the test passes
 pub held_by : (g : SegmentLine) (s : SectionLine) → holds g s ≡ true → IsHeldBy g s
 unfolding holds
 held_by g s h =
@@ -242,12 +235,13 @@ both_of true false e = (refl, refl)
 both_of false b e = absurd (false≢true e)
 
 module _ (ss : List SectionLine) (gs : List SegmentLine) where
-  all_held : first_outside ss gs ≡ None → (s : SectionLine) → Contains ss s → needs_segment s ≡ true → (g : SegmentLine) × Contains gs g × (holds g s ≡ true)
+  all_held : first_outside ss gs ≡ None → (s : SectionLine) → Contains ss s → needs_segment s ≡ true → (g : SegmentLine) × Contains gs g × IsHeldBy g s
   unfolding first_outside is_outside
   all_held e s there needs =
       let none : is_outside gs s ≡ false = All-contains (λ t. is_outside gs t ≡ false) ss s (none_passes (is_outside gs) ss (mapped_none (λ t. t.line) (find (is_outside gs) ss) e)) there in
       let any : list_any (λ g. holds g s) gs ≡ true = not_not (list_any (λ g. holds g s) gs) (sym (ap (λ b. b && not (list_any (λ g. holds g s) gs)) needs) ∙ none) in
-      any_of (λ g. holds g s) gs any
+      let (g, in_gs, held) = any_of (λ g. holds g s) gs any in
+      (g, in_gs, held_by g s held)
 
   outside_not : (n : ℕ) → first_outside ss gs ≡ Some n → IsGood ss gs → ⊥
   unfolding first_outside is_outside
@@ -256,7 +250,7 @@ module _ (ss : List SectionLine) (gs : List SegmentLine) where
       let (there, out) = found (is_outside gs) ss s is in
       let (needs, none) = both_of (needs_segment s) (list_any (λ g. holds g s) gs) out in
       let (g, in_gs, held) = good.held s there needs in
-      false≢true (sym (All-contains (λ g. holds g s ≡ false) gs g (none_of (λ g. holds g s) gs none) in_gs) ∙ held)
+      false≢true (sym (All-contains (λ g. holds g s ≡ false) gs g (none_of (λ g. holds g s) gs none) in_gs) ∙ held_so g s held)
 
 -- ---- the check
 
@@ -282,4 +276,4 @@ equal_distance g s h =
 pub congruent_everywhere : GoodMapsAreCongruent
 congruent_everywhere ss gs good s there needs =
     let (g, in_gs, held) = good.held s there needs in
-    (g, in_gs, held, λ m. ap (λ n. n % m) (equal_distance g s (held_by g s held)))
+    (g, in_gs, held, λ m. ap (λ n. n % m) (equal_distance g s held))

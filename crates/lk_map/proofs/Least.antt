@@ -16,10 +16,11 @@ use Rattle.lk_map.specs.declared.spans.Span.{Span}
 use Rattle.lk_map.specs.declared.sweep.Need.{Need}
 use Rattle.lk_map.specs.declared.sweep.Offer.{Offer}
 use Rattle.lk_map.specs.Checking.{first_outside, first_overflow, holds, is_outside, needs_segment}
+use Rattle.lk_map.specs.Good.{IsHeldBy}
 use Rattle.lk_map.specs.MapText.{LinesRise}
 use Rattle.lk_map.specs.Spans.{AreApart, counts_in_file, file_spans, is_allocated}
 use Rattle.lk_map.specs.Sweep.{IsLater, IsLeast, is_unserved, lesser_line, need_of, needs_of, NeedsRise, offer_of, OffersRise, serves, StartsLater}
-use Rattle.lk_map.proofs.Goodness.{all_end, file_span, held_by, held_so, IsHeldBy}
+use Rattle.lk_map.proofs.Goodness.{all_end, file_span, held_by, held_so}
 use Rattle.lk_map.proofs.Opening.{cons_cases, first_in, in_cons, serves_is, serves_whole}
 
 -- ---- the least, behind one more

@@ -13,7 +13,7 @@ use Rattle.lk_map.specs.Forms.{fields_of, follows, rank, row_of}
 use Rattle.lk_map.specs.Lines.{Line}
 use Rattle.lk_map.specs.MapText.{sections_of, segments_of}
 use Rattle.lk_map.specs.Reading.{is_end, line_of, line_then, lines_from, map_lines, map_of, onto, RefusesFirst, TextsAreRead, told_map}
-use Rattle.lk_map.specs.Written.{CanStand, GoOn, IsFirstWrong, line_text, parts_of, StandAt, TextSays}
+use Rattle.lk_map.specs.Written.{CanStand, GoOn, IsFirstWrong, line_text, parts_of, StandAt, TextSays, TextsSayOneThing}
 use Rattle.lk_map.proofs.Reading.{first_part}
 use Rattle.lk_map.proofs.WrittenMaps.{is_map, line_again, line_is, map_is}
 
@@ -241,3 +241,10 @@ says_read text (Err line) first = told_wrong text line (map_lines text) first re
 
 pub texts_are_read : TextsAreRead
 texts_are_read text said = (read_says text said, says_read text said)
+
+-- a text says what is read of it, and that is one thing
+pub texts_say_one_thing : TextsSayOneThing
+texts_say_one_thing = record {
+  one = λ text said other h k. sym ((texts_are_read text said).1 h) ∙ (texts_are_read text other).1 k;
+  some = λ text. (map_of text, (texts_are_read text (map_of text)).0 refl);
+}

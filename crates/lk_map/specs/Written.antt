@@ -92,3 +92,8 @@ abbrev pub Gives : Result MapText MapError → List ℕ → Type 0
 Gives (Ok read) text = TextSays text (Ok (read.sections.items, read.segments.items))
 Gives (Err (NotMap line)) text = TextSays text (Err line)
 Gives (Err NoMemory) text = Unit {0}
+
+-- each text says something, and no text says two things
+pub record TextsSayOneThing : Type 0 where
+  pub one : (text : List ℕ) (said other : Result (List SectionLine × List SegmentLine) ℕ) → TextSays text said → TextSays text other → said ≡ other
+  pub some : (text : List ℕ) → (said : Result (List SectionLine × List SegmentLine) ℕ) × TextSays text said

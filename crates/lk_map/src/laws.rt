@@ -3,6 +3,7 @@
 ghost use Rattle.lk_map.specs.Good.{GoodMapsAreCongruent};
 ghost use Rattle.lk_map.specs.Reading.{ReadsMaps, RefusesFirst, TextsAreRead};
 ghost use Rattle.lk_map.specs.Verdicts.{MapsAreJudged, MapsRise, VerdictsAgree, VerdictsTellGood};
+ghost use Rattle.lk_map.specs.Written.{TextsSayOneThing};
 
 /// A text is read as these lines exactly where it is a map of them.
 pub fn reads_maps()
@@ -17,6 +18,11 @@ pub fn refuses_first()
 /// What is read of a text is what it says, and no text says anything else.
 pub fn texts_are_read()
     ensures { TextsAreRead }
+{}
+
+/// Each text says something, and no text says two things.
+pub fn texts_say_one_thing()
+    ensures { TextsSayOneThing }
 {}
 
 /// In a good map each section that is allocated and has bytes in the file is as far behind the start of a segment that holds it in memory as

@@ -13,10 +13,10 @@ use Rattle.lk_expressions.specs.Records.{Fits, Record, has_file_bytes, nowhere}
 use Rattle.lk_map.specs.declared.map_text.SectionLine.{SectionLine}
 use Rattle.lk_map.specs.declared.map_text.SegmentLine.{SegmentLine}
 use Rattle.lk_map.specs.declared.spans.Span.{Span}
-use Rattle.lk_map.specs.Checking.{holds, needs_segment}
-use Rattle.lk_map.specs.Good.{IsGood}
+use Rattle.lk_map.specs.Checking.{needs_segment}
+use Rattle.lk_map.specs.Good.{IsGood, IsHeldBy}
 use Rattle.lk_map.specs.Spans.{counts_in_file, counts_in_memory}
-use Rattle.lk_map.proofs.Goodness.{file_span, held_so, memory_span}
+use Rattle.lk_map.proofs.Goodness.{file_span, memory_span}
 use Rattle.lk_place.specs.declared.cursors.Cursors.{Cursors}
 use Rattle.lk_place.specs.declared.segments.SegmentFileLayout.TheVariants.{FromSections}
 use Rattle.lk_place.specs.declared.segments.SegmentLayout.{SegmentLayout}
@@ -207,13 +207,12 @@ module _ (setting : Setting) (states : List Cursors) (records : List Record) (se
         (λ x y. counts_in_file x ≡ true → counts_in_file y ≡ true → (x.file_offset + x.file_size ≤ y.file_offset) ⊎ (y.file_offset + y.file_size ≤ x.file_offset))
         file_pair))
 
-    held_by : (r : Record) (n s : ℕ) → HoldsRecord r (span_of setting records s) → AreEquallyFar r (span_of setting records s) → holds (segment_line n r) (line_of s) ≡ true
+    held_by : (r : Record) (n s : ℕ) → HoldsRecord r (span_of setting records s) → AreEquallyFar r (span_of setting records s) → IsHeldBy (segment_line n r) (line_of s)
     held_by r n s hull far =
-        held_so (segment_line n r) (line_of s)
-        (record { memory_from = hull.memory_from; memory_to = hull.memory_to; file_from = hull.file_from; file_to = hull.file_to; distance = far })
+        record { memory_from = hull.memory_from; memory_to = hull.memory_to; file_from = hull.file_from; file_to = hull.file_to; distance = far }
 
     one_held : (s : ℕ) → s < length setting.plan.sections → needs_segment (line_of s) ≡ true
-        → (g : SegmentLine) × Contains (all_segments layouts segment_line) g × (holds g (line_of s) ≡ true)
+        → (g : SegmentLine) × Contains (all_segments layouts segment_line) g × IsHeldBy g (line_of s)
     unfolding needs_segment
     one_held s below need =
         let (bytes, set_flag) = and_parts (nat_lt 0 (span_of setting records s).file_size) (is_set 1 (attributes s)) need in
@@ -231,6 +230,6 @@ module _ (setting : Setting) (states : List Cursors) (records : List Record) (se
       segments_end = segments_end;
       apart_in_memory = apart_in_memory;
       apart_in_file = apart_in_file;
-      held = λ s among need. All-contains (λ s. needs_segment s ≡ true → (g : SegmentLine) × Contains (all_segments layouts segment_line) g × (holds g s ≡ true)) (all_told setting.plan.sections line_of) s
-          (each_told setting.plan.sections line_of (λ s. needs_segment s ≡ true → (g : SegmentLine) × Contains (all_segments layouts segment_line) g × (holds g s ≡ true)) one_held) among need;
+      held = λ s among need. All-contains (λ s. needs_segment s ≡ true → (g : SegmentLine) × Contains (all_segments layouts segment_line) g × IsHeldBy g s) (all_told setting.plan.sections line_of) s
+          (each_told setting.plan.sections line_of (λ s. needs_segment s ≡ true → (g : SegmentLine) × Contains (all_segments layouts segment_line) g × IsHeldBy g s) one_held) among need;
     }
