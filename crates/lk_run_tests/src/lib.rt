@@ -1,4 +1,5 @@
-//! Tests of runs: words and inputs in, texts, reports and statuses out. There is nothing else here.
+//! Tests of runs: words and inputs in, texts, reports and statuses out. Beside them stands the top call with its contract said once more,
+//! for wrong bodies.
 #![tactic(auto)]
 
 #[cfg(test)]
@@ -19,6 +20,7 @@ mod reports;
 mod rows;
 #[cfg(test)]
 mod runs;
+pub mod stated;
 #[cfg(test)]
 mod symbols;
 #[cfg(test)]

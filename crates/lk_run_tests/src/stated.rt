@@ -1,0 +1,28 @@
+//! The top call with its contract said once more. Wrong bodies for it stand in `must-fail/`; and were less promised of `run`, this one
+//! wouldn't be proved.
+
+ghost use Rattle.std.specs.Prelude.{map, string_bytes};
+ghost use Rattle.lk_run.specs.Run.{IsRun};
+ghost use Rattle.lk_run.specs.RunAlone.{AsksForWorkers};
+
+use lk_link::gate::Gate;
+use lk_run::{Sink, Source, Status, run};
+use std::alloc::Global;
+use std::sync::Wait;
+use std::thread::Threads;
+
+/// What `run` does.
+pub fn run_as_stated<R: Threads + Wait + Sync, S: Source, K: Sink, G: Gate + Sync>(
+    rt: &R,
+    alloc: Global,
+    words: &[String],
+    source: &mut S,
+    sink: &mut K,
+    gate: &G,
+) -> Status
+    requires gate { AsksForWorkers (map string_bytes words.now) → G.may_enter gate.now }
+    ensures run_theorem { IsRun (map string_bytes words.now) (S.state source.old) (S.state source.new)
+        (K.state sink.old) (K.state sink.new) result }
+{
+    run(rt, alloc, words, source, sink, gate)
+}
