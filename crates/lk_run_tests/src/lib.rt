@@ -1,5 +1,4 @@
-//! Tests of runs: words and inputs in, texts, reports and statuses out. Beside them stands the top call with its contract said once more,
-//! for wrong bodies.
+//! Tests of runs: words and inputs in, texts, reports and statuses out. There is nothing else here.
 #![tactic(auto)]
 
 #[cfg(test)]
@@ -20,7 +19,6 @@ mod reports;
 mod rows;
 #[cfg(test)]
 mod runs;
-pub mod stated;
 #[cfg(test)]
 mod symbols;
 #[cfg(test)]

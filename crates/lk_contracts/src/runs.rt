@@ -1,5 +1,4 @@
-//! The top call with its contract said once more. Wrong bodies for it stand in `must-fail/`; and were less promised of `run`, this one
-//! wouldn't be proved.
+//! A run, as it is promised.
 
 ghost use Rattle.std.specs.Prelude.{map, string_bytes};
 ghost use Rattle.lk_run.specs.Run.{IsRun};
@@ -11,7 +10,7 @@ use std::alloc::Global;
 use std::sync::Wait;
 use std::thread::Threads;
 
-/// What `run` does.
+/// What `run` of lk_run does.
 pub fn run_as_stated<R: Threads + Wait + Sync, S: Source, K: Sink, G: Gate + Sync>(
     rt: &R,
     alloc: Global,

@@ -1,0 +1,39 @@
+//! What is asked for, and how a group is parked, as they are promised.
+
+ghost use Rattle.std.specs.Prelude.{◌≡◌, [], IfOk, MatchBool};
+ghost use Rattle.lk_link.specs.WellFormed.{IsWellFormed};
+ghost use Rattle.lk_reach.specs.Units.{follows};
+ghost use Rattle.lk_slots.specs.Machine.{Parks, Swaps};
+ghost use Rattle.lk_workers.specs.Items.{machine_items, slot_of};
+
+use lk_flags::Reach;
+use lk_link::LinkInput;
+use lk_reach::{Ask, Unit, successors};
+use lk_workers::{LocalWorkQueue, WorkerSlot};
+use std::alloc::{AllocError, Global};
+
+/// What `successors` of lk_reach lends, in a list.
+pub fn successors_as_stated(
+    alloc: Global,
+    link: &LinkInput,
+    unit: Unit,
+) -> Result<Vec<Ask>, AllocError>
+    requires { IsWellFormed link.now }
+    ensures { IfOk result (λ asks. asks.items ≡ follows link.now unit) }
+{
+    successors(link, unit).collect(alloc)
+}
+
+/// What `park_or_swap` of lk_workers does. It has no use for the allocator, but a wrong body has.
+pub fn park_or_swap_as_stated<J: Reach>(
+    _alloc: Global,
+    slot: &mut WorkerSlot<J>,
+    items: &mut LocalWorkQueue,
+) -> bool
+    requires { items.old ≡ [] }
+    ensures { MatchBool result
+        (Parks (slot_of J.lists.groups slot.old) (slot_of J.lists.groups slot.new) × (items.new ≡ []))
+        (Swaps (machine_items J.lists.groups items.old) (machine_items J.lists.groups items.new) (slot_of J.lists.groups slot.old) (slot_of J.lists.groups slot.new)) }
+{
+    slot.park_or_swap(items)
+}
