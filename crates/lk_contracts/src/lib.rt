@@ -4,5 +4,7 @@
 #![tactic(auto)]
 
 pub mod layouts;
+pub mod merging;
+pub mod placing;
 pub mod runs;
 pub mod walks;

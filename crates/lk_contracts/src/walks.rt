@@ -1,12 +1,14 @@
-//! What is asked for, and how a group is parked, as they are promised.
+//! What is asked for, how flags are set, and how a group is parked, as they are promised.
 
-ghost use Rattle.std.specs.Prelude.{◌≡◌, [], IfOk, MatchBool};
+ghost use Rattle.std.specs.Prelude.{◌≡◌, ◌<◌, ◌++◌, ◌∷◌, [], IfOk, MatchBool, length};
+ghost use Rattle.std.specs.List.{slice_index};
+ghost use Rattle.lk_flags.specs.Flags.{IsFound, Within};
 ghost use Rattle.lk_link.specs.WellFormed.{IsWellFormed};
 ghost use Rattle.lk_reach.specs.Units.{follows};
 ghost use Rattle.lk_slots.specs.Machine.{Parks, Swaps};
 ghost use Rattle.lk_workers.specs.Items.{machine_items, slot_of};
 
-use lk_flags::Reach;
+use lk_flags::{FlagPass, FlagTable, Reach};
 use lk_link::LinkInput;
 use lk_reach::{Ask, Unit, successors};
 use lk_workers::{LocalWorkQueue, WorkerSlot};
@@ -36,4 +38,22 @@ pub fn park_or_swap_as_stated<J: Reach>(
         (Swaps (machine_items J.lists.groups items.old) (machine_items J.lists.groups items.new) (slot_of J.lists.groups slot.old) (slot_of J.lists.groups slot.new)) }
 {
     slot.park_or_swap(items)
+}
+
+/// What `set` of lk_flags does.
+pub fn set_as_stated<J: Reach>(
+    table: &FlagTable<J>,
+    pass: &mut FlagPass,
+    word: usize,
+    bits: u64,
+) -> u64
+    requires own { pass.old.table ≡ table.now }
+    requires place { word < length J.lists.words }
+    requires bounded { Within bits (slice_index J.lists.words word) }
+    ensures table { pass.new.table ≡ pass.old.table }
+    ensures parts { pass.new.parts ≡ pass.old.parts }
+    ensures sets { pass.new.sets ≡ pass.old.sets ++ record { word = word; bits = bits; found = result } ∷ [] }
+    ensures found { IsFound J.lists.handed J.lists.words pass.old.sets word result }
+{
+    table.set(pass, word, bits)
 }
