@@ -3,7 +3,7 @@
 ghost use Rattle.std.specs.Prelude.{◌≡◌, ◌<◌, None, IfSome, length};
 ghost use Rattle.lk_merge.specs.Buckets.{Adds};
 ghost use Rattle.lk_merge.specs.Hash.{fnv64};
-ghost use Rattle.lk_merge.specs.Image.{found_place};
+ghost use Rattle.lk_merge.specs.Merging.{found_place};
 ghost use Rattle.lk_merge.specs.MatrixCells.{pieces_of_strings};
 ghost use Rattle.lk_merge.specs.MatrixWork.{cell_pieces};
 
