@@ -1,16 +1,17 @@
-//! What is asked for, how flags are set, and how a group is parked, as they are promised.
+//! What is asked for and reached, how flags are set, and how a group is parked, as they are promised.
 
 ghost use Rattle.std.specs.Prelude.{◌≡◌, ◌<◌, ◌++◌, ◌∷◌, [], IfOk, MatchBool, length};
 ghost use Rattle.std.specs.List.{slice_index};
 ghost use Rattle.lk_flags.specs.Flags.{IsFound, Within};
 ghost use Rattle.lk_link.specs.WellFormed.{IsWellFormed};
+ghost use Rattle.lk_reach.specs.Marks.{IsWalked};
 ghost use Rattle.lk_reach.specs.Units.{follows};
 ghost use Rattle.lk_slots.specs.Machine.{Parks, Swaps};
 ghost use Rattle.lk_workers.specs.Items.{machine_items, slot_of};
 
 use lk_flags::{FlagPass, FlagTable, Reach};
 use lk_link::LinkInput;
-use lk_reach::{Ask, Unit, successors};
+use lk_reach::{Ask, Unit, Walk, successors};
 use lk_workers::{LocalWorkQueue, WorkerSlot};
 use std::alloc::{AllocError, Global};
 
@@ -24,6 +25,14 @@ pub fn successors_as_stated(
     ensures { IfOk result (λ asks. asks.items ≡ follows link.now unit) }
 {
     successors(link, unit).collect(alloc)
+}
+
+/// What `Walk::over` of lk_reach does.
+pub fn walk_as_stated(alloc: Global, link: &LinkInput) -> Result<Walk, AllocError>
+    requires { IsWellFormed link.now }
+    ensures { IfOk result (IsWalked link.now) }
+{
+    Walk::over(alloc, link)
 }
 
 /// What `park_or_swap` of lk_workers does. It has no use for the allocator, but a wrong body has.
