@@ -1,11 +1,15 @@
 //! Merged strings, as they are promised.
 
-ghost use Rattle.std.specs.Prelude.{◌≡◌, ◌<◌, None, IfSome, length};
+ghost use Rattle.std.specs.Prelude.{◌≡◌, ◌<◌, ℕ, IfSome, MatchOption, None, Some, length, slice_get};
+ghost use Rattle.lk_grid.specs.Machine.{Taken};
 ghost use Rattle.lk_merge.specs.Buckets.{Adds};
 ghost use Rattle.lk_merge.specs.Hash.{fnv64};
+ghost use Rattle.lk_merge.specs.Inputs.{input_start};
 ghost use Rattle.lk_merge.specs.Merging.{found_place};
-ghost use Rattle.lk_merge.specs.MatrixCells.{pieces_of_strings};
+ghost use Rattle.lk_merge.specs.MatrixCells.{pieces_of_strings, with_cell};
 ghost use Rattle.lk_merge.specs.MatrixWork.{cell_pieces};
+ghost use Rattle.lk_merge.specs.Pieces.{MergeInput};
+ghost use Rattle.lk_merge.specs.Places.{IsPlaceAt};
 
 use lk_merge::{
     Brings, BucketOffset, BucketWork, LinearInputOffset, MatrixCell, MergeError, MergeString,
@@ -23,13 +27,14 @@ pub fn add_string_as_stated<'data>(
     bucket.add_string(string)
 }
 
-/// What a cell of lk_merge gives a bucket that goes on: it takes the strings of its next group, and of no other.
+/// What `take` of a cell of lk_merge gives a bucket that goes on: the strings of its next group, and of no other.
 pub fn take_as_stated<'data, J: Brings>(
     cell: &mut MatrixCell<'data, J>,
     bucket: BucketWork<'data, J>,
 ) -> Option<(BucketWork<'data, J>, Vec<MergeString<'data>>)>
     requires { bucket.state.refusal ≡ None }
-    ensures { IfSome result (λ r. pieces_of_strings r.1.items ≡ cell_pieces J.work r.0.taken r.0.number) }
+    ensures takes { IfSome result (λ r. (r.0 ≡ bucket.entry) × (cell.new ≡ with_cell cell.old Taken)) }
+    ensures right { IfSome result (λ r. pieces_of_strings r.1.items ≡ cell_pieces J.work r.0.taken r.0.number) }
 {
     if cell.group() != bucket.taken() || cell.bucket() != bucket.number() {
         return None;
@@ -46,7 +51,9 @@ pub fn find_string_as_stated(
     start: LinearInputOffset,
     offset: u64,
 ) -> Option<BucketOffset>
-    ensures { result ≡ found_place fnv64 section.now start offset }
+    ensures found { result ≡ found_place fnv64 section.now start offset }
+    ensures apart { (k : ℕ) (x : MergeInput) → slice_get section.now k ≡ Some x → input_start section.now k ≡ start → offset < length x.bytes
+        → MatchOption result ⊥ (IsPlaceAt section.now x offset) }
 {
     find_string(section, start, offset)
 }

@@ -7,7 +7,7 @@ ghost use Rattle.lk_link.specs.WellFormed.{IsWellFormed};
 ghost use Rattle.lk_reach.specs.Marks.{IsWalked};
 ghost use Rattle.lk_reach.specs.Units.{follows};
 ghost use Rattle.lk_slots.specs.Machine.{Parks, Swaps};
-ghost use Rattle.lk_workers.specs.Items.{machine_items, slot_of};
+ghost use Rattle.lk_workers.specs.Items.{AreOwn, machine_items, slot_of};
 
 use lk_flags::{FlagPass, FlagTable, Reach};
 use lk_link::LinkInput;
@@ -42,9 +42,11 @@ pub fn park_or_swap_as_stated<J: Reach>(
     items: &mut LocalWorkQueue,
 ) -> bool
     requires { items.old ≡ [] }
-    ensures { MatchBool result
+    ensures goes { MatchBool result
         (Parks (slot_of J.lists.groups slot.old) (slot_of J.lists.groups slot.new) × (items.new ≡ []))
         (Swaps (machine_items J.lists.groups items.old) (machine_items J.lists.groups items.new) (slot_of J.lists.groups slot.old) (slot_of J.lists.groups slot.new)) }
+    ensures own { AreOwn J.lists slot.old.group items.new }
+    ensures group { slot.new.group ≡ slot.old.group }
 {
     slot.park_or_swap(items)
 }
