@@ -8,6 +8,7 @@ pub mod Following
 pub mod Goodness
 pub mod Holders
 pub mod Least
+pub mod Missed
 pub mod Opening
 pub mod Overlaps
 pub mod PlainDigits
