@@ -7,6 +7,7 @@ pub mod Fields
 pub mod Following
 pub mod Goodness
 pub mod Holders
+pub mod InOrder
 pub mod Least
 pub mod Missed
 pub mod Opening
