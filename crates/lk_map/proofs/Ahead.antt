@@ -38,12 +38,12 @@ parts_there stop text n below is =
 not_this : (byte x : ℕ) → byte ≤ 32 → 32 < x → is_byte byte x ≡ false
 not_this byte x low high = grind (arith, nat_tests)
 
-free : (byte : ℕ) → byte ≤ 32 → (xs : List ℕ) → All (λ x. 32 < x) xs → All (λ x. is_byte byte x ≡ false) xs
+pub free : (byte : ℕ) → byte ≤ 32 → (xs : List ℕ) → All (λ x. 32 < x) xs → All (λ x. is_byte byte x ≡ false) xs
 free byte low xs high = All-weaker (λ x. 32 < x) (λ x. is_byte byte x ≡ false) (λ x h. not_this byte x low h) xs high
 
 -- ---- digits
 
-glyph_high : (d : ℕ) → d < 16 → 32 < digit_glyph false d
+pub glyph_high : (d : ℕ) → d < 16 → 32 < digit_glyph false d
 glyph_high d h = grind (arith, nat_tests)
 
 -- no blank and no line feed is among digits
@@ -196,14 +196,16 @@ closes field text rest values (word, is, high, says) = (
 
 -- ---- a word of a form
 
-pub word_opens : (w : Word) (text word left : List ℕ) → word ≡ word_text w → text ≡ word ++ left → 0 < length left → get_or left 0 0 ≡ 32 → Opens (is.Word w ∷ []) text [] (take (length left - 1) (drop 1 left))
-unfolding value_of
-word_opens w text word left same parts some blank =
-    let rest = take (length left - 1) (drop 1 left) in
-    let yes : bytes_eq word (word_text w) ≡ true = (bytes_eq-Decides word (word_text w)).1 same in
-    opens (is.Word w) text rest [] (
-      word,
-      parts ∙ ap (λ ys. word ++ ys) (parts_there 32 left 0 some blank),
-      subst (λ ys. All (λ x. 32 < x) ys) (sym same) (word_above w),
-      ap (λ b. if b then Some [] else None) yes,
-    )
+module _ (w : Word) (text word left : List ℕ) (same : word ≡ word_text w) (parts : text ≡ word ++ left) (some : 0 < length left) (blank : get_or left 0 0 ≡ 32) where
+  pub word_begins : Begins 32 text (take (length left - 1) (drop 1 left)) (λ ys. value_of (is.Word w) ys ≡ Some [])
+  unfolding value_of
+  word_begins =
+      let yes : bytes_eq word (word_text w) ≡ true = (bytes_eq-Decides word (word_text w)).1 same in (
+        word,
+        parts ∙ ap (λ ys. word ++ ys) (parts_there 32 left 0 some blank),
+        subst (λ ys. All (λ x. 32 < x) ys) (sym same) (word_above w),
+        ap (λ b. if b then Some [] else None) yes,
+      )
+
+  pub word_opens : Opens (is.Word w ∷ []) text [] (take (length left - 1) (drop 1 left))
+  word_opens = opens (is.Word w) text (take (length left - 1) (drop 1 left)) [] word_begins

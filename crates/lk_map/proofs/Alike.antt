@@ -1,20 +1,42 @@
 -- A line that is read where it stands, among the lines of a map.
-use Rattle.std.proofs.Common.{◌≡◌, ℕ, ◌+◌, ◌<◌, true, List, [], ◌∷◌, ◌++◌, Option, Some, None, Result, length, refl, sym, ap, ◌∙◌, arith}
+use Rattle.std.proofs.Common.{◌≡◌, ◌≢◌, ℕ, ◌+◌, ◌<◌, true, List, [], ◌∷◌, ◌++◌, Option, Some, None, Result, length, refl, sym, ap, ◌∙◌, arith}
 use Rattle.std.specs.Prelude.{IfSome}
 use Rattle.std.specs.Borrow.{Bor}
+use Rattle.std.proofs.lemmas.Bool.{false≢true}
 use Rattle.std.proofs.lemmas.List.{length-append}
 use Rattle.std.proofs.lemmas.List.Splits.{slice_split_at}
 use Rattle.lk_map.specs.declared.forms.Form.{Form}
+use Rattle.lk_map.specs.declared.forms.Form.TheVariants as form
 use Rattle.lk_map.specs.declared.map_text.SectionLine.{SectionLine}
 use Rattle.lk_map.specs.declared.map_text.SegmentLine.{SegmentLine}
 use Rattle.lk_map.specs.Ahead.{SaysSome, Tells}
 use Rattle.lk_map.specs.Cutting.{is_byte}
-use Rattle.lk_map.specs.Forms.{fields_of, follows}
+use Rattle.lk_map.specs.Forms.{fields_of, follows, rank, row_of}
 use Rattle.lk_map.specs.MapText.{section_told, segment_told}
 use Rattle.lk_map.specs.Reading.{lines_from, words_of}
 use Rattle.lk_map.specs.Written.{parts_of}
 use Rattle.lk_map.proofs.Reading.{reading_more, told_by}
 use Rattle.lk_map.proofs.Spelled.{form_first}
+
+-- no form but these is one of which more than one line can stand
+pub stands_once : (f : Form) → (f ≢ form.Part) × (f ≢ form.Live) × (f ≢ form.Single) × (f ≢ form.Merged) × (f ≢ form.Piece) × (f ≢ form.Block) × (f ≢ form.Thunk) × (f ≢ form.Symbol) × (f ≢ form.Section) × (f ≢ form.Segment)
+    → follows (Some f) f ≡ true → ⊥
+unfolding follows rank row_of
+stands_once form.Layout apart can = false≢true can
+stands_once form.Section apart can = apart.8 refl
+stands_once form.Part apart can = apart.0 refl
+stands_once form.Segment apart can = apart.9 refl
+stands_once form.Live apart can = apart.1 refl
+stands_once form.Single apart can = apart.2 refl
+stands_once form.Merged apart can = apart.3 refl
+stands_once form.Piece apart can = apart.4 refl
+stands_once form.Block apart can = apart.5 refl
+stands_once form.Thunk apart can = apart.6 refl
+stands_once form.Symbol apart can = apart.7 refl
+stands_once form.Entry apart can = false≢true can
+stands_once form.NotLoaded apart can = false≢true can
+stands_once form.NotAnAddress apart can = false≢true can
+stands_once form.End apart can = false≢true can
 
 -- a line of which nothing is kept
 pub tells_other : (n : ℕ) (form : Form) (text : List ℕ) (o : Option (Bor (List ℕ))) →

@@ -7,7 +7,9 @@ pub mod Fields
 pub mod Following
 pub mod Goodness
 pub mod Holders
+pub mod InOrder
 pub mod Least
+pub mod Missed
 pub mod Opening
 pub mod Overlaps
 pub mod PlainDigits

@@ -7,11 +7,11 @@ use Rattle.std.specs.Str.{bytes_eq}
 use Rattle.std.specs.Str.Parse.{digits_value}
 use Rattle.std.proofs.lemmas.Bool.{and_parts, cases_Bool, cases_lt}
 use Rattle.std.proofs.lemmas.Bool.Decides.{nat_tests}
-use Rattle.std.proofs.lemmas.List.{take_more, take_all}
+use Rattle.std.proofs.lemmas.List.{length-append, take_more, take_all}
 use Rattle.std.proofs.lemmas.List.Elements.{All-cons, All-nil}
 use Rattle.std.proofs.lemmas.Nat.{div-mul-add}
 use Rattle.std.proofs.lemmas.Slice.Eq.{bytes_eq-Decides}
-use Rattle.std.proofs.Math.Nat.{div-eq_of_lt, div-lt_iff_lt-mul, lt-div-mul-add, mod-eq_of_lt, mod-lt, mul-add-mod_self_right, mul-le-mul_left, pow-le-pow_left, pow-suc, zero-div}
+use Rattle.std.proofs.Math.Nat.{div-eq_of_lt, div-lt_iff_lt-mul, lt-div-mul-add, mod-eq_of_lt, mod-lt, mul-add-mod_self_right, mul-le-mul_left, one-mul, pow-le-pow_left, pow-suc, pow-zero, zero-div}
 use Rattle.std.specs.Char.{digit_value}
 use Rattle.lk_map.specs.Digits.{AreDigitsIn, IsDigitIn}
 use Rattle.lk_map.specs.Numbers.{number_in}
@@ -100,6 +100,51 @@ module _ (base : ℕ) (low : 2 ≤ base) (high : base ≤ 16) where
         | inl some ↦ leads_more (suc turns) n some (leads turns (n / base) (fits_shorter turns n fits))
       ]
 
+  fits_64 : (n : ℕ) → n < 2 ^ 64 → n < base ^ 64
+  fits_64 n small = let h : 2 ^ 64 ≤ base ^ 64 = pow-le-pow_left low 64 in omega (arith, small, h)
+
+  -- what is written of a number of 64 bits: digits, at least one, and no zero in front of others
+  pub number_plain : (word : List ℕ) (n : ℕ) → word ≡ digits base false n → n < 2 ^ 64 → AreDigitsIn base word × (0 < length word) × (1 < length word → get_or word 0 0 ≢ 48)
+  unfolding digits Leads
+  number_plain word n is small =
+      let fits : n < base ^ 64 = fits_64 n small in
+      let all = written_digits 64 n [] (All-nil (IsDigitIn base)) in
+      let (x, xs, ds, first, only) = leads 63 n fits in
+      let shape : word ≡ x ∷ xs = is ∙ ds in
+      let long : length word ≡ length (x ∷ xs) = ap length shape in (
+        λ i below. subst (λ ds. IsDigitIn base (get_or ds i 0)) (sym is) (all i 0 (subst (λ ds. i < length ds) is below)),
+        omega (arith, long),
+        λ more zero_first.
+            let head : x ≡ 48 = sym (ap (λ ys. get_or ys 0 0) shape) ∙ zero_first in
+            elim (cases_lt 0 n) [
+              | inl some ↦ first some head
+              | inr none ↦ (let nothing : length xs ≡ 0 = ap length (only (omega arith)) in omega (arith, more, long, nothing))
+            ],
+      )
+
+  -- a number below a power has no more digits than that
+  one_digit : (turns n : ℕ) → n / base ≡ 0 → length (digits_onto (suc turns) base false n []) ≡ 1
+  one_digit turns n none = ap length (written_push base turns n ∙ ap (λ ds. ds ++ digit_glyph false (n % base) ∷ []) (front_last base turns n none))
+
+  short_onto : (k turns n : ℕ) → n < base ^ suc k → length (digits_onto turns base false n []) ≤ suc k
+  short_onto k zero n small = omega arith
+  short_onto zero (suc turns) n small =
+      let below : n < base = rw (pow-suc, pow-zero, one-mul) at small in
+      let one = one_digit turns n (div-eq_of_lt below) in
+      omega (arith, one)
+  short_onto (suc k) (suc turns) n small =
+      elim (cases_lt 0 (n / base)) [
+        | inr none ↦ (let one = one_digit turns n (omega arith) in omega (arith, one))
+        | inl some ↦
+            let front : length (digits_onto turns base false (n / base) []) ≤ suc k = short_onto k turns (n / base) (fits_shorter k n small) in
+            let whole = ap length (written_push base turns n ∙ ap (λ ds. ds ++ digit_glyph false (n % base) ∷ []) (front_more base turns n some)) ∙ length-append (digits_onto turns base false (n / base) []) (digit_glyph false (n % base) ∷ []) in
+            omega (arith, front, whole)
+      ]
+
+  pub digits_short : (k n : ℕ) → n < base ^ suc k → length (digits base false n) ≤ suc k
+  unfolding digits
+  digits_short k n small = short_onto k 64 n small
+
   -- ---- what is read
 
   module _ (word : List ℕ) (are : AreDigitsIn base word) where
@@ -149,9 +194,6 @@ module _ (base : ℕ) (low : 2 ≤ base) (high : base ≤ 16) where
         ∙ ap (λ ds. ds ++ digit_glyph false (whole % base) ∷ []) (front_more base turns whole (subst (λ m. 0 < m) (sym front_is) some) ∙ ap (λ k. digits_onto k base false (whole / base) []) turned ∙ ap (λ m. digits_onto (suc t) base false m []) (front_is ∙ sym (ap value same)) ∙ again n t (omega arith) (λ any. first (omega arith)) shorter ∙ ap (λ m. take m word) same)
         ∙ ap (λ x. take (suc n) word ++ x ∷ []) (ap (digit_glyph false) last_is ∙ sym is)
         ∙ sym (take_more word (suc n) 0 below)
-
-  fits_64 : (n : ℕ) → n < 2 ^ 64 → n < base ^ 64
-  fits_64 n small = let h : 2 ^ 64 ≤ base ^ 64 = pow-le-pow_left low 64 in omega (arith, small, h)
 
   -- a word of digits that is no more than one, or has no zero in front, is what is written
   plain_is_written : (word : List ℕ) → AreDigitsIn base word → 0 < length word → (1 < length word → get_or word 0 0 ≢ 48) → digits_value base word < 2 ^ 64 → digits base false (digits_value base word) ≡ word

@@ -40,7 +40,7 @@ numeral base n low high small = let h : 2 ^ 64 ≤ base ^ 64 = pow-le-pow_left l
 fits_then : (v n : ℕ) → nat_lt v (2 ^ 64) ≡ true → v ≡ n → n < 2 ^ 64
 fits_then v n h e = grind (arith, nat_tests)
 
-number_again : (base n : ℕ) → 2 ≤ base → base ≤ 16 → n < 2 ^ 64 → number_in base (digits base false n) ≡ Some n
+pub number_again : (base n : ℕ) → 2 ≤ base → base ≤ 16 → n < 2 ^ 64 → number_in base (digits base false n) ≡ Some n
 unfolding number_in
 number_again base n low high small =
     let (is, value) = numeral base n low high small in
@@ -52,7 +52,7 @@ number_if true true v n e = (refl, refl, cc)
 number_if true false v n e = cc
 number_if false c v n e = cc
 
-number_is : (base : ℕ) (word : List ℕ) (n : ℕ) → number_in base word ≡ Some n → (word ≡ digits base false n) × (n < 2 ^ 64)
+pub number_is : (base : ℕ) (word : List ℕ) (n : ℕ) → number_in base word ≡ Some n → (word ≡ digits base false n) × (n < 2 ^ 64)
 unfolding number_in
 number_is base word n e =
     let (fits, same, value) = number_if (nat_lt (digits_value base word) (2 ^ 64)) (bytes_eq word (digits base false (digits_value base word))) (digits_value base word) n e in
@@ -66,7 +66,7 @@ address_if : (b : Bool) (o : Option ℕ) (n : ℕ) → (if b then o else None) �
 address_if true o n e = (refl, e)
 address_if false o n e = cc
 
-address_is : (word : List ℕ) (n : ℕ) → address_in word ≡ Some n → (word ≡ address_text n) × (n < 2 ^ 64)
+pub address_is : (word : List ℕ) (n : ℕ) → address_in word ≡ Some n → (word ≡ address_text n) × (n < 2 ^ 64)
 unfolding address_in
 address_is word n e =
     let (front, number) = address_if (bytes_eq (take 2 word) (codes "0x")) (number_in 16 (drop 2 word)) n e in

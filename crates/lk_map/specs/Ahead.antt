@@ -1,5 +1,5 @@
 -- Private: a text's first words and its first line, read where they stand.
-use Rattle.std.specs.Prelude.{◌≡◌, ℕ, ◌<◌, true, false, List, ◌∷◌, ◌++◌, Option, Some}
+use Rattle.std.specs.Prelude.{◌≡◌, ℕ, ◌<◌, ◌≤◌, true, false, List, ◌∷◌, ◌++◌, Option, Some, None, length}
 use Rattle.std.specs.List.{All}
 use Rattle.lk_map.specs.declared.forms.Field.{Field}
 use Rattle.lk_map.specs.declared.forms.Form.{Form}
@@ -32,3 +32,21 @@ SaysSome fields text rest = (values : List (Option ℕ)) × Says fields text val
 abbrev pub Tells : ℕ → Form → List ℕ → List ℕ → List SectionLine → List SegmentLine → Type 0
 Tells n form text rest sections segments =
     (values : List (Option ℕ)) × Says (fields_of form) text values rest × (section_told n form values ≡ sections) × (segment_told n form values ≡ segments) × (follows (Some form) form ≡ true)
+
+-- ---- what isn't there
+
+-- a text begins with no word that is read so, with this byte behind it, if the word has at most so many bytes
+abbrev pub BeginsNot : ℕ → ℕ → List ℕ → (List ℕ → Option ℕ) → Type 0
+BeginsNot most stop text read = (word rest : List ℕ) → text ≡ word ++ stop ∷ rest → length word ≤ most → read word ≡ None
+
+-- a text begins with no line of these fields, if each of the line's words has at most 19 bytes, as all have but decimals of 20 digits
+abbrev pub SaysNot : List Field → List ℕ → Type 0
+SaysNot fields text = (line rest : List ℕ) → text ≡ line ++ 10 ∷ rest → All (λ word. length word ≤ 19) (words_of line) → values_of fields (words_of line) ≡ None
+
+-- nor with one of these fields and others behind them
+abbrev pub OpensNot : List Field → List ℕ → Type 0
+OpensNot fields text = (next : Field) (more : List Field) → SaysNot (fields ++ next ∷ more) text
+
+-- unless the rest begins with those others
+abbrev pub OpensOnly : List Field → List ℕ → List ℕ → Type 0
+OpensOnly fields text rest = (next : Field) (more : List Field) → SaysNot (next ∷ more) rest → SaysNot (fields ++ next ∷ more) text

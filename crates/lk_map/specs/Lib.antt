@@ -5,6 +5,7 @@ pub mod Cutting
 pub mod Digits
 pub mod Forms
 pub mod Good
+pub mod Held
 pub mod Lines
 pub mod MapText
 pub mod Numbers

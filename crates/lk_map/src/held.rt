@@ -1,8 +1,9 @@
 //! Sections that segments hold in their order. So they stand in most maps, and then there is nothing to sort.
 
-ghost use Rattle.std.specs.Prelude.{◌≡◌, ◌<◌, ◌≤◌, None, true, length, IfSome};
+ghost use Rattle.std.specs.Prelude.{◌≡◌, ℕ, ◌<◌, ◌≤◌, None, true, length, IfSome, MatchBool, MatchOption};
 ghost use Rattle.std.specs.List.{list_any};
 ghost use Rattle.lk_map.specs.Checking.{first_outside, holds, is_within};
+ghost use Rattle.lk_map.specs.Held.{AreHeldInOrder, HoldsAt};
 
 use crate::check::is_in_need;
 use crate::map_text::{SectionLine, SegmentLine};
@@ -40,7 +41,8 @@ fn is_holder(segment: &SegmentLine, section: &SectionLine) -> bool
 
 /// The first segment from a place on that holds a section.
 fn holder_from(segments: &[SegmentLine], first: usize, section: &SectionLine) -> Option<usize>
-    ensures { IfSome result (λ _. list_any (λ g. holds g section.now) segments.now ≡ true) }
+    ensures held { IfSome result (λ _. list_any (λ g. holds g section.now) segments.now ≡ true) }
+    ensures first { MatchOption result ((k : ℕ) → first ≤ k → ¬ HoldsAt segments.now k section.now) (λ place. (first ≤ place) × HoldsAt segments.now place section.now × ((k : ℕ) → first ≤ k → k < place → ¬ HoldsAt segments.now k section.now)) }
 {
     for place in first..segments.len() {
         if is_holder(&segments[place], section) {
@@ -52,7 +54,8 @@ fn holder_from(segments: &[SegmentLine], first: usize, section: &SectionLine) ->
 
 /// Whether each section that has to stand in a segment is held by the one that holds the section before it, or by one behind that.
 pub fn are_held_in_order(sections: &[SectionLine], segments: &[SegmentLine]) -> bool
-    ensures { result ≡ true → first_outside sections.now segments.now ≡ None }
+    ensures held { result ≡ true → first_outside sections.now segments.now ≡ None }
+    ensures order { MatchBool result (AreHeldInOrder segments.now sections.now) (¬ AreHeldInOrder segments.now sections.now) }
 {
     let mut holder = 0;
     for section in sections {

@@ -1,9 +1,9 @@
 //! Numbers as a map writes them.
 
-ghost use Rattle.std.specs.Prelude.{◌≡◌, ℕ, ◌≤◌, ◌<◌, ◌^◌, ◌+◌, ◌*◌, nat_lt, Some, None, IfSome, MatchOption, if◌then◌else◌, length, take};
+ghost use Rattle.std.specs.Prelude.{◌≡◌, ℕ, ◌≤◌, ◌<◌, ◌^◌, ◌+◌, ◌*◌, ◌∷◌, ◌++◌, nat_lt, List, Some, None, IfNone, IfSome, MatchOption, if◌then◌else◌, length, slice_index, take};
 ghost use Rattle.std.specs.Str.Parse.{digits_value};
 ghost use Rattle.std.specs.Char.{digit_value};
-ghost use Rattle.lk_map.specs.Ahead.{Begins};
+ghost use Rattle.lk_map.specs.Ahead.{Begins, BeginsNot};
 ghost use Rattle.lk_map.specs.Digits.{AreDigitsIn, IsDigitIn};
 ghost use Rattle.lk_map.specs.Numbers.{address_in, number_in};
 
@@ -90,7 +90,8 @@ const DIGITS: [u8; 256] = [
 /// What a byte counts as a digit below 16, by the table.
 #[inline(always)]
 fn hex_digit(byte: u8) -> u64
-    ensures { (base : ℕ) → base ≤ 16 → result < base → IsDigitIn base byte × (digit_value byte ≡ result) }
+    ensures value { (base : ℕ) → base ≤ 16 → result < base → IsDigitIn base byte × (digit_value byte ≡ result) }
+    ensures none { (base : ℕ) → base ≤ 16 → base ≤ result → ¬ IsDigitIn base byte }
 {
     u64::from(DIGITS[usize::from(byte)])
 }
@@ -98,7 +99,8 @@ fn hex_digit(byte: u8) -> u64
 /// What a byte counts as a digit below 10: 16 where it is none.
 #[inline(always)]
 fn decimal_digit(byte: u8) -> u64
-    ensures { (base : ℕ) → base ≤ 16 → result < base → IsDigitIn base byte × (digit_value byte ≡ result) }
+    ensures value { (base : ℕ) → base ≤ 16 → result < base → IsDigitIn base byte × (digit_value byte ≡ result) }
+    ensures none { (base : ℕ) → base ≤ 10 → base ≤ result → ¬ IsDigitIn base byte }
 {
     match byte {
         b'0'..=b'9' => u64::from(byte - b'0'),
@@ -110,7 +112,8 @@ fn decimal_digit(byte: u8) -> u64
 #[inline(always)]
 fn digit_in(base: u64, byte: u8) -> u64
     requires { base ≤ 16 }
-    ensures { result < base → IsDigitIn base byte × (digit_value byte ≡ result) }
+    ensures value { result < base → IsDigitIn base byte × (digit_value byte ≡ result) }
+    ensures none { base ≤ result → ¬ IsDigitIn base byte }
 {
     if base <= 10 {
         decimal_digit(byte)
@@ -127,6 +130,7 @@ fn first_digits(base: u64, most: usize, text: &[u8]) -> (u64, usize)
     ensures within { result.1 ≤ length text.now }
     ensures digits { AreDigitsIn base (take result.1 text.now) }
     ensures value { digits_value base (take result.1 text.now) ≡ result.0 }
+    ensures all { result.1 < length text.now → result.1 < most → ¬ IsDigitIn base (slice_index text.now result.1) }
 {
     let mut value: u64 = 0;
     let end = text.len().min(most);
@@ -147,7 +151,8 @@ fn number_ahead(base: u64, most: usize, stop: u8, text: &[u8]) -> Option<(u64, &
     requires low { 2 ≤ base }
     requires high { base ≤ 16 }
     requires fits { base ^ most ≤ 2 ^ 64 }
-    ensures { IfSome result (λ found. Begins stop text.now found.1.now (λ word. number_in base word ≡ Some found.0)) }
+    ensures found { IfSome result (λ found. Begins stop text.now found.1.now (λ word. number_in base word ≡ Some found.0)) }
+    ensures none { stop ≤ 32 → IfNone result (BeginsNot most stop text.now (number_in base)) }
 {
     let (number, count) = first_digits(base, most, text);
     if count == 0 || count == text.len() {
@@ -165,7 +170,8 @@ fn number_ahead(base: u64, most: usize, stop: u8, text: &[u8]) -> Option<(u64, &
 /// The same in decimal. One of 20 digits is left to be cut off.
 #[inline(always)]
 pub fn decimal_ahead(stop: u8, text: &[u8]) -> Option<(u64, &[u8])>
-    ensures { IfSome result (λ found. Begins stop text.now found.1.now (λ word. number_in 10 word ≡ Some found.0)) }
+    ensures found { IfSome result (λ found. Begins stop text.now found.1.now (λ word. number_in 10 word ≡ Some found.0)) }
+    ensures none { stop ≤ 32 → IfNone result (BeginsNot 19 stop text.now (number_in 10)) }
 {
     number_ahead(10, 19, stop, text)
 }
@@ -173,7 +179,8 @@ pub fn decimal_ahead(stop: u8, text: &[u8]) -> Option<(u64, &[u8])>
 /// The same of an address.
 #[inline(always)]
 pub fn address_ahead(stop: u8, text: &[u8]) -> Option<(u64, &[u8])>
-    ensures { IfSome result (λ found. Begins stop text.now found.1.now (λ word. address_in word ≡ Some found.0)) }
+    ensures found { IfSome result (λ found. Begins stop text.now found.1.now (λ word. address_in word ≡ Some found.0)) }
+    ensures none { stop ≤ 32 → IfNone result ((word rest : List ℕ) → text.now ≡ word ++ stop ∷ rest → address_in word ≡ None) }
 {
     if text.len() >= 2 && text[0] == b'0' && text[1] == b'x' {
         number_ahead(16, 16, stop, &text[2..])

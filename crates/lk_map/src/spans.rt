@@ -1,10 +1,10 @@
 //! Ranges of sections, and the first two that overlap.
 
-ghost use Rattle.std.specs.Prelude.{◌≡◌, ℕ, ◌+◌, ◌<◌, ◌≤◌, length, min, max, slice_index_or, true, IfOk, IfSome, MatchOption};
+ghost use Rattle.std.specs.Prelude.{◌≡◌, ℕ, ◌+◌, ◌^◌, ◌<◌, ◌≤◌, length, min, max, slice_index_or, true, IfOk, IfSome, MatchBool, MatchOption};
 ghost use Rattle.lk_map.specs.MapText.{LinesRise};
 ghost use Rattle.lk_map.specs.Spans.{counts_in_file, counts_in_memory, file_spans, memory_spans, AreApart, FindsOverlap, LinesRiseIn};
 ghost use Rattle.lk_map.specs.Spans.{is_allocated as is_allocated_line};
-ghost use Rattle.lk_map.specs.Sorted.{NeighboursApart, StartsBelow};
+ghost use Rattle.lk_map.specs.Sorted.{Follow, NeighboursApart, StartsBelow};
 
 use crate::map_text::SectionLine;
 use std::alloc::{AllocError, Global};
@@ -111,7 +111,8 @@ fn first_overlap(spans: &mut [Span]) -> Option<(usize, usize)>
 
 /// The end of a range that starts at another's end or behind it, if it has 64 bits.
 fn end_behind(end: u64, start: u64, size: u64) -> Option<u64>
-    ensures { IfSome result (λ e. (end ≤ start) × (e ≡ start + size)) }
+    ensures end { IfSome result (λ e. (end ≤ start) × (e ≡ start + size)) }
+    ensures none { MatchOption result (end ≤ start → 2 ^ 64 ≤ start + size) (λ _. start + size < 2 ^ 64) }
 {
     if start < end {
         return None;
@@ -122,7 +123,8 @@ fn end_behind(end: u64, start: u64, size: u64) -> Option<u64>
 /// Whether each section that counts in memory ends there before the next one starts, in the order of their lines. So it mostly is, and
 /// then none overlaps another.
 fn follow_in_memory(sections: &[SectionLine]) -> bool
-    ensures { result ≡ true → AreApart (memory_spans sections.now) }
+    ensures apart { result ≡ true → AreApart (memory_spans sections.now) }
+    ensures order { MatchBool result (Follow 0 (memory_spans sections.now)) (¬ Follow 0 (memory_spans sections.now)) }
 {
     let mut end = 0;
     for section in sections {
@@ -138,7 +140,8 @@ fn follow_in_memory(sections: &[SectionLine]) -> bool
 
 /// Whether each that counts in the file ends there before the next one starts.
 fn follow_in_file(sections: &[SectionLine]) -> bool
-    ensures { result ≡ true → AreApart (file_spans sections.now) }
+    ensures apart { result ≡ true → AreApart (file_spans sections.now) }
+    ensures order { MatchBool result (Follow 0 (file_spans sections.now)) (¬ Follow 0 (file_spans sections.now)) }
 {
     let mut end = 0;
     for section in sections {

@@ -56,7 +56,7 @@ returns-then-not-goes_on-clause-read c =
 
 pub lines-preserved-in-Some : goal.lines-preserved-in-Some
 lines-preserved-in-Some c =
-    let (form, is, tells) = c.in-Some.ensures {u = tt} in
+    let (form, is, tells) = c.in-Some.ensures.found in
     let sections = kept_sections c.in-Some.kept in
     let segments = kept_segments c.in-Some.kept in
     let less : length c.in-Some.after.now < length c.lines.rest.now = less_behind c.lines.line form c.lines.rest.now c.in-Some.after.now sections segments tells in (

@@ -20,7 +20,7 @@ overflow_add-value c =
 
 pub loop-count-preserved : goal.loop-count-preserved
 loop-count-preserved c =
-    let digit = c.digit_in-digit.ensures c.if-digit-base.false in (
+    let digit = c.digit_in-digit.ensures.value c.if-digit-base.false in (
       digits_more c.args.base c.args.text.now c.loop-count.count c.loop-count.invariant.0 digit.0,
       value_more c.args.base c.args.text.now c.loop-count.count (omega arith)
           ∙ ap (λ v. v * c.args.base + digit_value (get_or c.args.text.now c.loop-count.count 0)) c.loop-count.invariant.1

@@ -35,6 +35,27 @@ from_table table b i d same is below all base high small =
     let (glyph, value) = counts table b d (so_at table 256 all b below) at (omega arith) in
     ((d, small, glyph), value)
 
-pub returns : goal.returns
+-- the glyphs below n count as what they are of
+are_back : List ℕ → ℕ → Bool
+are_back table zero = true
+are_back table (suc n) = (get_or table (digit_glyph false n) 0 == n) && are_back table n
+
+back_at : (table : List ℕ) (n : ℕ) → are_back table n ≡ true → (d : ℕ) → d < n → get_or table (digit_glyph false d) 0 ≡ d
+unfolding are_back
+back_at table zero h d lt = absurd (omega arith)
+back_at table (suc n) h d lt =
+    let (here, below) = and_parts (get_or table (digit_glyph false n) 0 == n) (are_back table n) h in
+    elim (cases_eq d n) [ inl same ↦ (let so : get_or table (digit_glyph false n) 0 ≡ n = grind (arith, nat_tests) in rw same so) | inr other ↦ back_at table n below d (omega arith) ]
+
+none_from_table : (table : List ℕ) (b i r : ℕ) → i ≡ b → r ≡ get_or table i 0 → are_back table 16 ≡ true → (base : ℕ) → base ≤ 16 → base ≤ r → ¬ IsDigitIn base b
+none_from_table table b i r same is all base high large (d, small, glyph) =
+    let counts : r ≡ d = is ∙ ap (λ k. get_or table k 0) (same ∙ glyph) ∙ back_at table 16 all d (omega arith) in
+    omega (arith, counts, small, large)
+
+pub returns-clause-none : goal.returns-clause-none
+unfolding are_back
+returns-clause-none c = none_from_table DIGITS c.args.byte c.from.result c.from-2.result c.from.ensures c.from-2.ensures refl
+
+pub returns-clause-value : goal.returns-clause-value
 unfolding are_so is_so
-returns c = from_table DIGITS c.args.byte c.from.result c.from-2.result c.from.ensures c.from-2.ensures (omega arith) refl
+returns-clause-value c = from_table DIGITS c.args.byte c.from.result c.from-2.result c.from.ensures c.from-2.ensures (omega arith) refl

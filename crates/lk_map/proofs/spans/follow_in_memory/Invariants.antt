@@ -1,7 +1,8 @@
 use Rattle.std.proofs.Common.{take}
-use Rattle.lk_map.specs.Spans.{memory_spans}
-use Rattle.lk_map.proofs.Following.{Follow}
+use Rattle.lk_map.specs.Spans.{counts_in_memory, memory_spans}
+use Rattle.lk_map.proofs.Following.{AreApartBy, Decides}
+use Rattle.lk_map.proofs.Goodness.{memory_span}
 use Rattle.lk_map.proofs.spans.follow_in_memory.Given as goal
 
 abbrev pub invariant-loop-section : goal.invariant-loop-section
-invariant-loop-section l = Follow (memory_spans (take l.section-index l.sections)) l.end
+invariant-loop-section l = AreApartBy (memory_spans (take l.section-index l.sections)) l.end × Decides counts_in_memory memory_span l.sections l.end l.section-index

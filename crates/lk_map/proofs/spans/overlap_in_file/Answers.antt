@@ -10,4 +10,4 @@ first_overlap-requires c =
 
 pub returns-then-follow_in_file : goal.returns-then-follow_in_file
 unfolding FindsOverlap
-returns-then-follow_in_file c = c.follow_in_file.ensures c.if-follow_in_file.true
+returns-then-follow_in_file c = c.follow_in_file.ensures.apart c.if-follow_in_file.true

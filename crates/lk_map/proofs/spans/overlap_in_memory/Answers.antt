@@ -10,4 +10,4 @@ first_overlap-requires c =
 
 pub returns-then-follow_in_memory : goal.returns-then-follow_in_memory
 unfolding FindsOverlap
-returns-then-follow_in_memory c = c.follow_in_memory.ensures c.if-follow_in_memory.true
+returns-then-follow_in_memory c = c.follow_in_memory.ensures.apart c.if-follow_in_memory.true
