@@ -1,9 +1,9 @@
 //! Sections that segments hold in their order. So they stand in most maps, and then there is nothing to sort.
 
-ghost use Rattle.std.specs.Prelude.{◌≡◌, ℕ, ◌<◌, ◌≤◌, None, true, length, IfSome, MatchBool, MatchOption};
+ghost use Rattle.std.specs.Prelude.{◌≡◌, ◌<◌, ◌≤◌, None, true, length, IfSome, MatchBool};
 ghost use Rattle.std.specs.List.{list_any};
 ghost use Rattle.lk_map.specs.Checking.{first_outside, holds, is_within};
-ghost use Rattle.lk_map.specs.Held.{AreHeldInOrder, HoldsAt};
+ghost use Rattle.lk_map.specs.Held.{AreHeldInOrder, IsFirstHolder};
 
 use crate::check::is_in_need;
 use crate::map_text::{SectionLine, SegmentLine};
@@ -42,7 +42,7 @@ fn is_holder(segment: &SegmentLine, section: &SectionLine) -> bool
 /// The first segment from a place on that holds a section.
 fn holder_from(segments: &[SegmentLine], first: usize, section: &SectionLine) -> Option<usize>
     ensures held { IfSome result (λ _. list_any (λ g. holds g section.now) segments.now ≡ true) }
-    ensures first { MatchOption result ((k : ℕ) → first ≤ k → ¬ HoldsAt segments.now k section.now) (λ place. (first ≤ place) × HoldsAt segments.now place section.now × ((k : ℕ) → first ≤ k → k < place → ¬ HoldsAt segments.now k section.now)) }
+    ensures first { IsFirstHolder segments.now first section.now result }
 {
     for place in first..segments.len() {
         if is_holder(&segments[place], section) {

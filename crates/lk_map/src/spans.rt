@@ -120,8 +120,8 @@ fn end_behind(end: u64, start: u64, size: u64) -> Option<u64>
     start.checked_add(size)
 }
 
-/// Whether each section that counts in memory ends there before the next one starts, in the order of their lines. So it mostly is, and
-/// then none overlaps another.
+/// Whether each section that counts in memory ends there before the next one starts, in the order of their lines, and none past 2^64 - 1. So
+/// it mostly is, and then none overlaps another.
 fn follow_in_memory(sections: &[SectionLine]) -> bool
     ensures apart { result ≡ true → AreApart (memory_spans sections.now) }
     ensures order { MatchBool result (Follow 0 (memory_spans sections.now)) (¬ Follow 0 (memory_spans sections.now)) }

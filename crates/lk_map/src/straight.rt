@@ -1,6 +1,6 @@
 //! Lines of a known form, read where they stand in a text. Each field of a form has code of its own, and a line is gone through once, with no
 //! search for its end. Only what fits is found: a line of another form, or with a decimal of 20 digits, is left to be cut off and read as it
-//! is defined.
+//! is defined. No other is left.
 
 ghost use Rattle.std.specs.Prelude.{◌≡◌, ◌≢◌, ℕ, List, ◌∷◌, ◌++◌, [], true, Option, Some, IfNone, IfSome, MatchOption, codes};
 ghost use Rattle.lk_map.specs.Ahead.{Begins, Opens, OpensNot, OpensOnly, Says, SaysNot, SaysSome, Tells};
@@ -150,7 +150,8 @@ struct Ranges {
 fn ranges_then(text: &[u8]) -> Option<(Ranges, &[u8])>
     ensures found { IfSome result (λ found. Opens (is.Word word.Mem ∷ is.Address ∷ is.Number ∷ is.Word word.File ∷ is.Address ∷ is.Number ∷ is.Word word.Align ∷ []) text.now
         (Some found.0.mem_offset ∷ Some found.0.mem_size ∷ Some found.0.file_offset ∷ Some found.0.file_size ∷ []) found.1.now) }
-    ensures none { MatchOption result (OpensNot (is.Word word.Mem ∷ is.Address ∷ is.Number ∷ is.Word word.File ∷ is.Address ∷ is.Number ∷ is.Word word.Align ∷ []) text.now) (λ found. OpensOnly (is.Word word.Mem ∷ is.Address ∷ is.Number ∷ is.Word word.File ∷ is.Address ∷ is.Number ∷ is.Word word.Align ∷ []) text.now found.1.now) }
+    ensures none { MatchOption result (OpensNot (is.Word word.Mem ∷ is.Address ∷ is.Number ∷ is.Word word.File ∷ is.Address ∷ is.Number ∷ is.Word word.Align ∷ []) text.now)
+        (λ found. OpensOnly (is.Word word.Mem ∷ is.Address ∷ is.Number ∷ is.Word word.File ∷ is.Address ∷ is.Number ∷ is.Word word.Align ∷ []) text.now found.1.now) }
 {
     let rest = word_then(Word::Mem, text)?;
     let (mem_offset, rest) = address_then(rest)?;
@@ -345,7 +346,8 @@ pub enum Kept {
 }
 
 /// What is kept of a text's first line, which has this number, if it has the form of the line before it; and what stands behind it. In a
-/// map another line of that form can stand there.
+/// map another line of that form can stand there. Nothing is found only where the form stands just once, or no such line stands there whose
+/// decimals have at most 19 digits.
 pub fn line_alike(line: usize, before: Option<Form>, text: &[u8]) -> Option<(Kept, &[u8])>
     ensures found { IfSome result (λ found. (form : Form) × (before ≡ Some form) × Tells line form text.now found.1.now (kept_sections found.0) (kept_segments found.0)) }
     ensures none { IfNone result (IfSome before (λ form. follows (Some form) form ≡ true → SaysNot (fields_of form) text.now)) }
