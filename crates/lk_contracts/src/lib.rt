@@ -3,8 +3,6 @@
 //! this crate.
 #![tactic(auto)]
 
-pub mod layouts;
 pub mod merging;
 pub mod placing;
-pub mod runs;
 pub mod walks;

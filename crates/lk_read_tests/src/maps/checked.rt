@@ -1,6 +1,6 @@
 //! What is told of maps.
 
-use crate::rows::OfMaps;
+use super::rows::OfMaps;
 use lk_test_rows::{Failed, expect_rows};
 
 /// Ends at 2^64 - 1 and past it.

@@ -1,6 +1,6 @@
 //! Which texts are maps.
 
-use crate::rows::OfMaps;
+use super::rows::OfMaps;
 use lk_test_rows::{Failed, expect_rows};
 
 /// The report as it is; texts that stop early or go on behind the end; kinds that go back, stand twice or are missing.

@@ -2,15 +2,17 @@
 
 ghost use Rattle.std.specs.Prelude.{◌≡◌, IfOk};
 
-use crate::rows::Asked;
 use lk_devices::transfer::{read_all, write_all};
 use lk_devices::{
     MemorySink, MemorySource, Sink, Source, StandardInput, StandardOutput, SureSink, SureSource,
 };
 use lk_test_rows::{Failed, Line, expect_rows};
+use rows::Asked;
 use std::alloc::{AllocError, Global};
 use std::io::{Read, Write};
 use std::{io, str};
+
+mod rows;
 
 /// The number that a word is; 0 for other words.
 fn number(word: Option<&str>) -> u64 {

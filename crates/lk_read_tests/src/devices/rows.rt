@@ -1,6 +1,6 @@
 //! What rows ask here.
 
-use crate::devices::{add_calls, add_held, add_reads, add_whole, add_writes};
+use super::{add_calls, add_held, add_reads, add_whole, add_writes};
 use lk_test_rows::{Asks, Line};
 use std::alloc::Global;
 
