@@ -10,7 +10,7 @@ use Rattle.lk_map.specs.Forms.{fields_of, follows}
 use Rattle.lk_map.specs.MapText.{section_told, segment_told}
 use Rattle.lk_map.specs.Reading.{values_of, words_of}
 
--- a text begins with a word that says this, and behind it stand this byte and the rest; no blank or line feed is in the word
+-- a text begins with a word that says this, and behind it stand this byte and the rest; no byte of the word is a blank or below, as a line feed is
 abbrev pub Begins : ℕ → List ℕ → List ℕ → (List ℕ → Type 0) → Type 0
 Begins stop text rest says = (word : List ℕ) × (text ≡ word ++ stop ∷ rest) × All (λ x. 32 < x) word × says word
 
@@ -19,7 +19,7 @@ abbrev pub Says : List Field → List ℕ → List (Option ℕ) → List ℕ →
 Says fields text values rest =
     (line : List ℕ) × (text ≡ line ++ 10 ∷ rest) × All (λ x. is_byte 10 x ≡ false) line × (values_of fields (words_of line) ≡ Some values)
 
--- a line that begins with a text has these values in its first fields, and its other fields are read in the rest
+-- a line that begins with a text has these values in its first fields, where its other fields are read in the rest
 abbrev pub Opens : List Field → List ℕ → List (Option ℕ) → List ℕ → Type 0
 Opens fields text values rest =
     (more : List Field) (others : List (Option ℕ)) (end : List ℕ) → Says more rest others end → Says (fields ++ more) text (values ++ others) end
@@ -28,7 +28,7 @@ Opens fields text values rest =
 abbrev pub SaysSome : List Field → List ℕ → List ℕ → Type 0
 SaysSome fields text rest = (values : List (Option ℕ)) × Says fields text values rest
 
--- what is told of line n of a text, which has this form: its section or its segment, if it is one's. Another of the form can stand behind it
+-- what is told of a text's first line, as line n, which has this form: its section or its segment, if it is one's. Behind it the rest stands, where another of the form can
 abbrev pub Tells : ℕ → Form → List ℕ → List ℕ → List SectionLine → List SegmentLine → Type 0
 Tells n form text rest sections segments =
     (values : List (Option ℕ)) × Says (fields_of form) text values rest × (section_told n form values ≡ sections) × (segment_told n form values ≡ segments) × (follows (Some form) form ≡ true)

@@ -3,7 +3,7 @@ use Rattle.std.specs.Prelude.{ℕ, ◌+◌, ◌^◌, ◌<◌, ◌≤◌, List, [
 use Rattle.std.specs.List.{AllAdjacentBelow}
 use Rattle.lk_map.specs.declared.spans.Span.{Span}
 
--- the neighbours up to a place have no byte in common
+-- each of the first so many ranges ends no later than the next of them starts
 abbrev pub NeighboursApart : List Span → ℕ → Type 0
 NeighboursApart spans high = AllAdjacentBelow (λ x y. x.start + x.size ≤ y.start) spans high
 

@@ -60,6 +60,6 @@ unfoldable pub FindsOverlap : List Span → Option (ℕ × ℕ) → Type 0
 FindsOverlap spans None = AreApart spans
 FindsOverlap spans (Some lines) = (x : Span) × (y : Span) × IsFirstOverlap spans x y × (lines.0 ≡ min x.line y.line) × (lines.1 ≡ max x.line y.line)
 
--- the lines of ranges differ
+-- the lines of ranges rise
 abbrev pub LinesRiseIn : List Span → Type 0
 LinesRiseIn spans = AllPairs (λ x y. x.line < y.line) spans

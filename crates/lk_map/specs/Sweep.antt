@@ -58,11 +58,11 @@ is_unserved offers n = not (list_any (λ o. serves o n) offers)
 
 -- ---- their order
 
--- a segment has begun where a section starts
+-- a segment has begun where a section starts: distances come first, and what starts in the file then
 abbrev pub HasBegun : Offer → Need → Type 0
 HasBegun o n = (o.distance < n.distance) ⊎ ((o.distance ≡ n.distance) × (o.start ≤ n.start))
 
--- a segment ends before a section does, and so before all later ones
+-- a segment ends before a section does, and so before all later ones: distances come first here too, and in what follows
 abbrev pub IsSpent : Open → Need → Type 0
 IsSpent x n = (x.distance < n.distance) ⊎ ((x.distance ≡ n.distance) × (x.file_end < n.file_end))
 

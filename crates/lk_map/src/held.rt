@@ -52,7 +52,7 @@ fn holder_from(segments: &[SegmentLine], first: usize, section: &SectionLine) ->
     None
 }
 
-/// Whether each section that has to stand in a segment is held by the one that holds the section before it, or by one behind that.
+/// Whether each section that has to stand in a segment is held by the one that holds the last such section before it, or by one behind that.
 pub fn are_held_in_order(sections: &[SectionLine], segments: &[SegmentLine]) -> bool
     ensures held { result ≡ true → first_outside sections.now segments.now ≡ None }
     ensures order { MatchBool result (AreHeldInOrder segments.now sections.now) (¬ AreHeldInOrder segments.now sections.now) }

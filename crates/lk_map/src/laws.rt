@@ -10,7 +10,7 @@ pub fn reads_maps()
     ensures { ReadsMaps }
 {}
 
-/// A text that is no map is refused at the first line at which no map goes on.
+/// What is refused is refused at the first line at which no map goes on.
 pub fn refuses_first()
     ensures { RefusesFirst }
 {}

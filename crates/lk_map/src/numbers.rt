@@ -7,7 +7,7 @@ ghost use Rattle.lk_map.specs.Ahead.{Begins, BeginsNot};
 ghost use Rattle.lk_map.specs.Digits.{AreDigitsIn, IsDigitIn};
 ghost use Rattle.lk_map.specs.Numbers.{address_in, number_in};
 
-/// What a byte counts as a digit below 16, in lower case: 16 where it is none.
+/// What a byte counts as a digit below 16, in lower case: no less than 16 where it is none.
 fn digit_of(byte: u8) -> u64
     ensures value { (base : ℕ) → base ≤ 16 → result < base → IsDigitIn base byte × (digit_value byte ≡ result) }
     ensures none { (base : ℕ) → base ≤ 16 → base ≤ result → ¬ IsDigitIn base byte }
@@ -96,7 +96,7 @@ fn hex_digit(byte: u8) -> u64
     u64::from(DIGITS[usize::from(byte)])
 }
 
-/// What a byte counts as a digit below 10: 16 where it is none.
+/// What a byte counts as a digit below 10: no less than 10 where it is none.
 #[inline(always)]
 fn decimal_digit(byte: u8) -> u64
     ensures value { (base : ℕ) → base ≤ 16 → result < base → IsDigitIn base byte × (digit_value byte ≡ result) }
@@ -128,6 +128,7 @@ fn first_digits(base: u64, most: usize, text: &[u8]) -> (u64, usize)
     requires high { base ≤ 16 }
     requires fits { base ^ most ≤ 2 ^ 64 }
     ensures within { result.1 ≤ length text.now }
+    ensures most { result.1 ≤ most }
     ensures digits { AreDigitsIn base (take result.1 text.now) }
     ensures value { digits_value base (take result.1 text.now) ≡ result.0 }
     ensures all { result.1 < length text.now → result.1 < most → ¬ IsDigitIn base (slice_index text.now result.1) }
@@ -144,8 +145,8 @@ fn first_digits(base: u64, most: usize, text: &[u8]) -> (u64, usize)
     (value, end)
 }
 
-/// The number that a text's first word writes in a base, if it has no more than so many digits and a given byte ends it, and what stands
-/// behind that byte. Each byte is looked at once, and no sum is tested, so this is faster than to cut the word off and read it.
+/// The number that a text's first word writes in a base, if a given byte ends it, and what stands behind that byte. One of more digits than
+/// so many may be left. Each byte is looked at once, and no sum is tested, so this is faster than to cut the word off and read it.
 #[inline(always)]
 fn number_ahead(base: u64, most: usize, stop: u8, text: &[u8]) -> Option<(u64, &[u8])>
     requires low { 2 ≤ base }
@@ -167,7 +168,7 @@ fn number_ahead(base: u64, most: usize, stop: u8, text: &[u8]) -> Option<(u64, &
     Some((number, &text[count + 1..]))
 }
 
-/// The same in decimal. One of 20 digits is left to be cut off.
+/// The same in decimal. One of 20 digits may be left to be cut off.
 #[inline(always)]
 pub fn decimal_ahead(stop: u8, text: &[u8]) -> Option<(u64, &[u8])>
     ensures found { IfSome result (λ found. Begins stop text.now found.1.now (λ word. number_in 10 word ≡ Some found.0)) }

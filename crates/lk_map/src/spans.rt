@@ -97,7 +97,7 @@ fn first_below_end(spans: &[Span]) -> Option<usize>
     None
 }
 
-/// The lines of the first two of these ranges that overlap, in rising order. The ranges are put in the order of their starts.
+/// The lines of the first two of these ranges that overlap, in rising order. The ranges may be put in another order.
 fn first_overlap(spans: &mut [Span]) -> Option<(usize, usize)>
     requires { LinesRiseIn spans.old }
     ensures { FindsOverlap spans.old result }
@@ -120,8 +120,8 @@ fn end_behind(end: u64, start: u64, size: u64) -> Option<u64>
     start.checked_add(size)
 }
 
-/// Whether each section that counts in memory ends there before the next one starts, in the order of their lines, and none past 2^64 - 1. So
-/// it mostly is, and then none overlaps another.
+/// Whether each section that counts in memory ends there no later than the next one of the list starts, and none past 2^64 - 1. So it
+/// mostly is, and then none overlaps another.
 fn follow_in_memory(sections: &[SectionLine]) -> bool
     ensures apart { result ≡ true → AreApart (memory_spans sections.now) }
     ensures order { MatchBool result (Follow 0 (memory_spans sections.now)) (¬ Follow 0 (memory_spans sections.now)) }
@@ -138,7 +138,7 @@ fn follow_in_memory(sections: &[SectionLine]) -> bool
     true
 }
 
-/// Whether each that counts in the file ends there before the next one starts.
+/// Whether each that counts in the file ends there no later than the next one starts, and none past 2^64 - 1.
 fn follow_in_file(sections: &[SectionLine]) -> bool
     ensures apart { result ≡ true → AreApart (file_spans sections.now) }
     ensures order { MatchBool result (Follow 0 (file_spans sections.now)) (¬ Follow 0 (file_spans sections.now)) }

@@ -1,11 +1,12 @@
 //! Lines of a known form, read where they stand in a text. Each field of a form has code of its own, and a line is gone through once, with no
-//! search for its end. Only what fits is found: a line of another form, or with a decimal of 20 digits, is left to be cut off and read as it
-//! is defined. No other is left.
+//! search for its end. Only what fits is found: a line of another form is left to be cut off and read as it is defined, and one with a decimal
+//! of 20 digits may be. Of the forms that stand more than once, no other is left.
 
 ghost use Rattle.std.specs.Prelude.{◌≡◌, ◌≢◌, ℕ, List, ◌∷◌, ◌++◌, [], true, Option, Some, IfNone, IfSome, MatchOption, codes};
 ghost use Rattle.lk_map.specs.Ahead.{Begins, Opens, OpensNot, OpensOnly, Says, SaysNot, SaysSome, Tells};
 ghost use Rattle.lk_map.specs.Alike.{kept_sections, kept_segments};
 ghost use Rattle.lk_map.specs.Forms.{fields_of, follows};
+ghost use Rattle.lk_map.specs.Reading.{value_of};
 ghost use Rattle.lk_map.specs.declared.forms.Field.TheVariants as is;
 ghost use Rattle.lk_map.specs.declared.forms.Form.TheVariants as form;
 ghost use Rattle.lk_map.specs.declared.forms.Word.TheVariants as word;
@@ -19,6 +20,7 @@ use crate::numbers::{address_ahead, decimal_ahead};
 /// What stands behind a word and its blank.
 #[inline(always)]
 fn word_then(expected: Word, text: &[u8]) -> Option<&[u8]>
+    ensures word { IfSome result (λ rest. Begins 32 text.now rest.now (λ word. value_of (is.Word expected) word ≡ Some [])) }
     ensures found { IfSome result (λ rest. Opens (is.Word expected ∷ []) text.now [] rest.now) }
     ensures none { MatchOption result (OpensNot (is.Word expected ∷ []) text.now) (λ rest. OpensOnly (is.Word expected ∷ []) text.now rest.now) }
 {
@@ -32,6 +34,7 @@ fn word_then(expected: Word, text: &[u8]) -> Option<&[u8]>
 /// A number in decimal, and what stands behind its blank.
 #[inline(always)]
 fn number_then(text: &[u8]) -> Option<(u64, &[u8])>
+    ensures word { IfSome result (λ found. Begins 32 text.now found.1.now (λ word. value_of is.Number word ≡ Some (Some found.0 ∷ []))) }
     ensures found { IfSome result (λ found. Opens (is.Number ∷ []) text.now (Some found.0 ∷ []) found.1.now) }
     ensures none { MatchOption result (OpensNot (is.Number ∷ []) text.now) (λ found. OpensOnly (is.Number ∷ []) text.now found.1.now) }
 {
@@ -52,6 +55,7 @@ fn last_number(text: &[u8]) -> Option<(u64, &[u8])>
 /// An address, and what stands behind its blank.
 #[inline(always)]
 fn address_then(text: &[u8]) -> Option<(u64, &[u8])>
+    ensures word { IfSome result (λ found. Begins 32 text.now found.1.now (λ word. value_of is.Address word ≡ Some (Some found.0 ∷ []))) }
     ensures found { IfSome result (λ found. Opens (is.Address ∷ []) text.now (Some found.0 ∷ []) found.1.now) }
     ensures none { MatchOption result (OpensNot (is.Address ∷ []) text.now) (λ found. OpensOnly (is.Address ∷ []) text.now found.1.now) }
 {
@@ -85,6 +89,7 @@ fn dash_ahead(stop: u8, text: &[u8]) -> Option<&[u8]>
 /// A number in decimal or `-`, and what stands behind its blank.
 #[inline(always)]
 fn number_or_none_then(text: &[u8]) -> Option<(Option<u64>, &[u8])>
+    ensures word { IfSome result (λ found. Begins 32 text.now found.1.now (λ word. value_of is.NumberOrNone word ≡ Some (found.0 ∷ []))) }
     ensures found { IfSome result (λ found. Opens (is.NumberOrNone ∷ []) text.now (found.0 ∷ []) found.1.now) }
     ensures none { MatchOption result (OpensNot (is.NumberOrNone ∷ []) text.now) (λ found. OpensOnly (is.NumberOrNone ∷ []) text.now found.1.now) }
 {
@@ -111,6 +116,7 @@ fn last_number_or_none(text: &[u8]) -> Option<(Option<u64>, &[u8])>
 /// An address or `-`, and what stands behind its blank.
 #[inline(always)]
 fn address_or_none_then(text: &[u8]) -> Option<(Option<u64>, &[u8])>
+    ensures word { IfSome result (λ found. Begins 32 text.now found.1.now (λ word. value_of is.AddressOrNone word ≡ Some (found.0 ∷ []))) }
     ensures found { IfSome result (λ found. Opens (is.AddressOrNone ∷ []) text.now (found.0 ∷ []) found.1.now) }
     ensures none { MatchOption result (OpensNot (is.AddressOrNone ∷ []) text.now) (λ found. OpensOnly (is.AddressOrNone ∷ []) text.now found.1.now) }
 {
@@ -145,7 +151,7 @@ struct Ranges {
     file_size: u64,
 }
 
-/// The fields from `mem` up to `align`, and what stands behind its blank.
+/// What the fields from `mem` up to `align` say, if the rest of the line is read, and what stands behind its blank.
 #[inline(always)]
 fn ranges_then(text: &[u8]) -> Option<(Ranges, &[u8])>
     ensures found { IfSome result (λ found. Opens (is.Word word.Mem ∷ is.Address ∷ is.Number ∷ is.Word word.File ∷ is.Address ∷ is.Number ∷ is.Word word.Align ∷ []) text.now

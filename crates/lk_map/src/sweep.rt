@@ -107,14 +107,14 @@ fn all_offers(alloc: Global, segments: &[SegmentLine]) -> Result<Vec<Offer>, All
         .collect(alloc)
 }
 
-/// Whether a segment has begun where a section starts.
+/// Whether a segment has begun where a section starts, by distance first and then in the file.
 fn has_begun(offer: &Offer, need: &Need) -> bool
     ensures { IsTrue result ↔ HasBegun offer.now need.now }
 {
     offer.distance < need.distance || (offer.distance == need.distance && offer.start <= need.start)
 }
 
-/// Whether a segment ends before a section does.
+/// Whether a segment ends before a section does, by distance first and then in the file.
 fn is_spent(segment: &Open, need: &Need) -> bool
     ensures { IsTrue result ↔ IsSpent segment.now need.now }
 {
@@ -180,7 +180,7 @@ fn let_best_go(heap: &mut BinaryHeap<Open>)
     let _best = heap.pop();
 }
 
-/// Lets go of the best open segments those that are spent, and says whether one is left that ends no earlier in memory than a section.
+/// Lets go of open segments that are spent, and says whether one is left that ends no earlier in memory than a section.
 /// No open segment has a later distance.
 fn is_held_by_best(heap: &mut BinaryHeap<Open>, need: &Need) -> bool
     requires order { IsHeap open_cmp (heap_items heap.old) }

@@ -4,6 +4,12 @@ use Rattle.lk_map.proofs.Ahead.{dash_for_address, fits_address_or_none, opens}
 use Rattle.lk_map.proofs.Missed.{no_address_or_none, opens_not, opens_only}
 use Rattle.lk_map.proofs.straight.address_or_none_then.Goals as goal
 
+pub returns-in-Some-clause-word : goal.returns-in-Some-clause-word
+returns-in-Some-clause-word c = dash_for_address 32 c.args.text.now c.in-Some.rest.now (c.in-Some.ensures.found)
+
+pub returns-clause-word : goal.returns-clause-word
+returns-clause-word c = fits_address_or_none 32 c.args.text.now c.in_ok-number.rest.now c.in_ok-number.number (c.in_ok-number.ensures.found)
+
 pub returns-in-Some-clause-found : goal.returns-in-Some-clause-found
 returns-in-Some-clause-found c = opens is.AddressOrNone c.args.text.now c.in-Some.rest.now (None ∷ []) (dash_for_address 32 c.args.text.now c.in-Some.rest.now (c.in-Some.ensures.found))
 

@@ -4,6 +4,9 @@ use Rattle.lk_map.proofs.Ahead.{fits_address, opens}
 use Rattle.lk_map.proofs.Missed.{no_address, opens_not, opens_only}
 use Rattle.lk_map.proofs.straight.address_then.Goals as goal
 
+pub returns-clause-word : goal.returns-clause-word
+returns-clause-word c = fits_address 32 c.args.text.now c.in_ok-number.rest.now c.in_ok-number.number (c.in_ok-number.ensures.found)
+
 pub returns-clause-found : goal.returns-clause-found
 returns-clause-found c = opens is.Address c.args.text.now c.in_ok-number.rest.now (Some c.in_ok-number.number ∷ []) (fits_address 32 c.args.text.now c.in_ok-number.rest.now c.in_ok-number.number (c.in_ok-number.ensures.found))
 

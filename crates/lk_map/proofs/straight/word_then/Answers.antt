@@ -7,6 +7,13 @@ use Rattle.lk_map.proofs.Missed.{blank_behind, no_word, opens_not, opens_only}
 use Rattle.lk_map.proofs.straight.word_then.Goals as goal
 use Rattle.lk_map.proofs.straight.word_then.Goals.{then-is_empty-via-then-is_empty, then-is_empty-via-else-is_empty+then-rest-ne32}
 
+pub returns-clause-word : goal.returns-clause-word
+returns-clause-word c =
+    let some : 0 < length c.in_ok-rest.rest.now = grind (arith, nat_tests) in
+    word_begins c.args.expected c.args.text.now c.as_bytes.result.now c.in_ok-rest.rest.now (c.as_bytes.ensures.value ∙ c.text_of.ensures)
+    (strip_prefix_is Decides-eqb c.args.text.now c.as_bytes.result.now (Some c.in_ok-rest.rest) c.in_ok-rest.ensures.cases)
+    some c.if-rest-ne32.false
+
 pub returns-clause-found : goal.returns-clause-found
 returns-clause-found c =
     let some : 0 < length c.in_ok-rest.rest.now = grind (arith, nat_tests) in
