@@ -178,7 +178,7 @@ class File:
         if number not in elf.RELOCATIONS:
             refuse(f"{self.object.name}: a relocation R_X86_64_{elf.REFUSED.get(number, number)}: no rule for it here")
         kind, target = elf.RELOCATIONS[number].kind, self.definition(symbol)
-        if target and target.section and target.type == elf.STT_GNU_IFUNC and kind in ("Absolute", "Relative"):
+        if target and target.section and target.type == elf.STT_GNU_IFUNC and kind in ("Absolute", "AbsoluteSet", "Relative"):
             kind = "PltRelative"
         made.relocs.append([offset, kind, symbol, addend, False])
         made.types.append(number)

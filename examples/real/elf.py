@@ -33,8 +33,8 @@ RELOCATIONS: Dict[int, RelocationType] = {
     for kind, form, formula, names in (
         ("None", "", "", {0: "NONE"}),
         ("Absolute", "Q", "S+A", {1: "64"}),
-        ("Absolute", "I", "S+A", {10: "32"}),
-        ("Absolute", "i", "S+A", {11: "32S"}),
+        ("AbsoluteSet", "I", "S+A", {10: "32"}),
+        ("AbsoluteSet", "i", "S+A", {11: "32S"}),
         ("Relative", "i", "S+A-P", {2: "PC32", 4: "PLT32", 26: "GOTPC32"}),
         ("GotRelative", "i", "G+A-P", {9: "GOTPCREL", 41: "GOTPCRELX", 42: "REX_GOTPCRELX"}),
         ("GotTpOff", "i", "O+A-P", {22: "GOTTPOFF"}),

@@ -6,7 +6,8 @@ ghost use Rattle.lk_merge.specs.Buckets.{Adds};
 ghost use Rattle.lk_merge.specs.Hash.{fnv64};
 ghost use Rattle.lk_merge.specs.Inputs.{input_start};
 ghost use Rattle.lk_merge.specs.Merging.{found_place};
-ghost use Rattle.lk_merge.specs.MatrixCells.{pieces_of_strings, with_cell};
+ghost use Rattle.lk_merge.specs.MatrixCells.{ComesTo, pieces_of_strings, with_cell};
+ghost use Rattle.lk_merge.specs.MatrixTables.{AreRight, Gets};
 ghost use Rattle.lk_merge.specs.MatrixWork.{cell_pieces};
 ghost use Rattle.lk_merge.specs.Pieces.{MergeInput};
 ghost use Rattle.lk_merge.specs.Places.{IsPlaceAt};
@@ -27,8 +28,20 @@ pub fn add_string_as_stated<'data>(
     bucket.add_string(string)
 }
 
-/// What `take` of a cell of lk_merge gives a bucket that goes on: the strings of its next group, and of no other.
+/// What `take` of a cell of lk_merge does.
 pub fn take_as_stated<'data, J: Brings>(
+    cell: &mut MatrixCell<'data, J>,
+    bucket: BucketWork<'data, J>,
+) -> Take<'data, J>
+    requires { ComesTo cell.old.group cell.old.bucket bucket }
+    ensures takes { Gets cell.old bucket.entry result cell.new }
+    ensures right { AreRight J.work cell.old result }
+{
+    cell.take(bucket)
+}
+
+/// What `take` gives a bucket that goes on and looks before it whether the cell is its own: the strings of its next group, and of no other.
+pub fn take_next_as_stated<'data, J: Brings>(
     cell: &mut MatrixCell<'data, J>,
     bucket: BucketWork<'data, J>,
 ) -> Option<(BucketWork<'data, J>, Vec<MergeString<'data>>)>

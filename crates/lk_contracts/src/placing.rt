@@ -1,19 +1,20 @@
 //! Where things stand, as it is promised.
 
-ghost use Rattle.std.specs.Prelude.{◌≡◌, ◌<◌, ◌≤◌, ◌%◌, ◌^◌, ℕ, IfOk, length};
+ghost use Rattle.std.specs.Prelude.{◌≡◌, ◌<◌, ◌≤◌, ◌%◌, ◌^◌, ℕ, IfOk, length, map};
 ghost use Rattle.std.specs.List.{slice_index};
 ghost use Rattle.lk_link.specs.Parts.{all_parts};
 ghost use Rattle.lk_link.specs.Target.{platform_target};
+ghost use Rattle.lk_link.specs.Walks.{input_of};
 ghost use Rattle.lk_link.specs.WellFormed.{IsWellFormed};
 ghost use Rattle.lk_place.specs.Answers.{GivesPlaced};
 ghost use Rattle.lk_place.specs.Setting.{setting_of};
-ghost use Rattle.lk_ranks.specs.Ranks.{StandByKeys};
+ghost use Rattle.lk_ranks.specs.Ranks.{AreSortedKeys, StandByKeys};
 ghost use Rattle.lk_thunks.specs.Blocks.{assigned, thunk_blocks};
 
 use lk_link::platform::Platform;
-use lk_link::{FileId, LinkInput};
+use lk_link::{FileId, InputRef, LinkInput};
 use lk_place::{PlaceError, Placed, SymbolPositions, compute_layout_sections};
-use lk_ranks::in_order;
+use lk_ranks::{in_order, sorted_keys};
 use lk_thunks::{ThunkBlockId, assign_thunk_blocks};
 use std::alloc::{AllocError, Global};
 
@@ -31,6 +32,14 @@ pub fn compute_layout_sections_as_stated<P: Platform>(
     ensures { GivesPlaced (setting_of link.now (platform_target (P.segment_start platform.now)) sizes.now headers positions.now) result }
 {
     compute_layout_sections(alloc, link, sizes, positions, headers, platform)
+}
+
+/// What `sorted_keys` of lk_ranks does.
+pub fn sorted_keys_as_stated(alloc: Global, found: &[InputRef<'_>]) -> Result<Vec<u64>, AllocError>
+    requires few { length found.now ≤ 2 ^ 24 }
+    ensures { IfOk result (λ keys. AreSortedKeys (map input_of found.now) keys.items) }
+{
+    sorted_keys(alloc, found)
 }
 
 /// What `in_order` of lk_ranks does.
