@@ -95,4 +95,13 @@ impl Line {
             Err(Failed::Told)
         }
     }
+
+    /// Wants what another line tells, told for that.
+    pub fn expect_as<R: Eprint>(&self, rt: &R, of: &str, other: &Line) -> Result<(), Failed> {
+        if other.is_whole {
+            self.expect(rt, of, other.text.as_str())
+        } else {
+            Err(Failed::NoMemory)
+        }
+    }
 }
