@@ -6,7 +6,8 @@ use crate::placement::placed::{Spanned, add_placed};
 use crate::placement::walked::add_walk;
 use lk_input::{InputError, read_link};
 use lk_link::LinkInput;
-use std::alloc::{AllocError, Global};
+use lk_test_rows::Line;
+use std::alloc::Global;
 
 mod edges;
 mod expressions;
@@ -33,10 +34,10 @@ pub enum OfPlacement {
 /// Adds what is answered of a link that there is.
 fn add_found(
     alloc: Global,
-    line: &mut String,
+    line: &mut Line,
     asked: OfPlacement,
     link: &Result<LinkInput, InputError>,
-) -> Result<(), AllocError> {
+) {
     match (asked, link) {
         (_, Err(error)) => write!(line, "no link: {error}"),
         (OfPlacement::Values, Ok(link)) => add_values(alloc, line, link),
@@ -46,23 +47,13 @@ fn add_found(
 }
 
 /// Adds what is answered where the text is a description.
-fn add_linked(
-    alloc: Global,
-    line: &mut String,
-    asked: OfPlacement,
-    text: &str,
-) -> Result<(), AllocError> {
+fn add_linked(alloc: Global, line: &mut Line, asked: OfPlacement, text: &str) {
     let link = read_link(alloc, text.as_bytes());
     add_found(alloc, line, asked, &link)
 }
 
 /// Adds what is answered.
-pub fn add_of_placement(
-    alloc: Global,
-    line: &mut String,
-    asked: OfPlacement,
-    text: &str,
-) -> Result<(), AllocError> {
+pub fn add_of_placement(alloc: Global, line: &mut Line, asked: OfPlacement, text: &str) {
     match asked {
         OfPlacement::Placed(asked) => add_placed(alloc, line, asked, text),
         OfPlacement::Walked => add_walk(alloc, line, text),
