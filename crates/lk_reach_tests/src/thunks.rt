@@ -3,7 +3,8 @@
 use crate::thunks::blocks::add_blocks;
 use crate::thunks::planned::add_planned;
 use crate::thunks::reach::add_reach;
-use std::alloc::{AllocError, Global};
+use lk_test_rows::Line;
+use std::alloc::Global;
 
 mod blocks;
 mod planned;
@@ -26,12 +27,7 @@ pub fn number(text: &str) -> u64 {
 }
 
 /// Adds what is answered.
-pub fn add_of_thunks(
-    alloc: Global,
-    line: &mut String,
-    asked: OfThunks,
-    text: &str,
-) -> Result<(), AllocError> {
+pub fn add_of_thunks(alloc: Global, line: &mut Line, asked: OfThunks, text: &str) {
     match asked {
         OfThunks::Blocks => add_blocks(alloc, line, text),
         OfThunks::Planned => add_planned(alloc, line, text),
