@@ -1,6 +1,6 @@
 //! Layouts whose sections are moved in the file, and what is told of groups and files.
 
-use crate::rows::{Asked, expect_rows};
+use crate::rows::Asked;
 use lk_answers::files::ObjectLayout;
 use lk_answers::section_resolution::SectionResolutions;
 use lk_answers::{Answers, FileLayout, GroupLayout};
@@ -9,8 +9,8 @@ use lk_layout::{Layout, LayoutError, Small64Arch};
 use lk_link::ids::OutputSectionId;
 use lk_link::{LinkInput, Small64};
 use lk_place::{OutputRecordLayout, SegmentFileLayout};
+use lk_test_rows::{Failed, Line, expect_rows};
 use std::alloc::{AllocError, Global};
-use std::test::Fail;
 
 /// Where a section is to go, and in which kind of file.
 #[derive(Clone, Copy)]
@@ -36,30 +36,24 @@ fn move_of(words: &str) -> Move {
 }
 
 /// Adds what each record takes in the file.
-fn add_ranges(
-    line: &mut String,
-    what: &str,
-    records: &[OutputRecordLayout],
-) -> Result<(), AllocError> {
-    write!(line, ", {what}")?;
+fn add_ranges(line: &mut Line, what: &str, records: &[OutputRecordLayout]) {
+    write!(line, ", {what}");
     for one in records {
         let (start, size) = (one.file_offset, one.file_size);
-        write!(line, " {start}+{size}")?;
+        write!(line, " {start}+{size}");
     }
-    Ok(())
 }
 
 /// Adds what is told of the file.
-fn add_file(line: &mut String, layout: &Layout<'_>) -> Result<(), AllocError> {
-    add_ranges(line, "sections", layout.section_layouts())?;
-    add_ranges(line, "parts", layout.section_part_layouts())?;
-    add_ranges(line, "joined", layout.merged_section_layouts())?;
-    write!(line, ", segments")?;
+fn add_file(line: &mut Line, layout: &Layout<'_>) {
+    add_ranges(line, "sections", layout.section_layouts());
+    add_ranges(line, "parts", layout.section_part_layouts());
+    add_ranges(line, "joined", layout.merged_section_layouts());
+    line.push_str(", segments");
     for one in layout.segment_layouts() {
         let (start, size) = (one.sizes.file_offset, one.sizes.file_size);
-        write!(line, " {start}+{size}")?;
+        write!(line, " {start}+{size}");
     }
-    Ok(())
 }
 
 /// Moves the section, if it is there.
@@ -73,45 +67,36 @@ fn moved(layout: &mut Layout<'_>, asked: Move) -> Option<u64> {
 }
 
 /// Adds where the section ends, and what is told of the file then.
-fn add_move(
-    alloc: Global,
-    line: &mut String,
-    layout: &mut Layout<'_>,
-    asked: Move,
-) -> Result<(), AllocError> {
+fn add_move(alloc: Global, line: &mut Line, layout: &mut Layout<'_>, asked: Move) {
     match moved(layout, asked) {
-        Some(end) => write!(line, "{end}")?,
-        None => write!(line, "none")?,
+        Some(end) => write!(line, "{end}"),
+        None => line.push_str("none"),
     }
-    layout.refresh_file_layouts(alloc, asked.kind)?;
-    add_file(line, layout)
+    match layout.refresh_file_layouts(alloc, asked.kind) {
+        Ok(()) => add_file(line, layout),
+        Err(_) => line.run_out(),
+    }
 }
 
 /// Adds what is told where a section of what was computed is moved.
 fn add_move_in(
     alloc: Global,
-    line: &mut String,
+    line: &mut Line,
     computed: &mut Result<Layout<'_>, LayoutError>,
     asked: Move,
-) -> Result<(), AllocError> {
+) {
     match computed {
         Ok(layout) => add_move(alloc, line, layout, asked),
-        Err(LayoutError::NoMemory) => Err(AllocError),
-        Err(_) => write!(line, "refused"),
+        Err(LayoutError::NoMemory) => line.run_out(),
+        Err(_) => line.push_str("refused"),
     }
 }
 
 /// Adds what is told where a section of a link is moved.
-pub fn add_moved(
-    alloc: Global,
-    line: &mut String,
-    link: &LinkInput,
-    words: &str,
-) -> Result<(), AllocError> {
+pub fn add_moved(alloc: Global, line: &mut Line, link: &LinkInput, words: &str) {
     let mut computed = compute_alone(alloc, link, &Small64, &Small64Arch);
-    let added = add_move_in(alloc, line, &mut computed, move_of(words));
+    add_move_in(alloc, line, &mut computed, move_of(words));
     drop(computed);
-    added
 }
 
 /// Sections that are moved in the file, by number, start and kind of file: where they end, and what all take there then.
@@ -134,91 +119,79 @@ const MOVED: &str =
 "#;
 
 #[test]
-fn sections_are_moved_in_the_file(rt: HostRuntime) -> Result<(), Fail> {
-    expect_rows(&rt, rt.alloc(), Asked::Moved, MOVED)
+fn sections_are_moved_in_the_file(rt: HostRuntime) -> Result<(), Failed> {
+    expect_rows(&rt, rt.alloc(), &Asked::Moved, MOVED)
 }
 
 /// Adds where the sections of a file stand.
-fn add_resolutions(line: &mut String, all: &SectionResolutions<'_>) -> Result<(), AllocError> {
+fn add_resolutions(line: &mut Line, all: &SectionResolutions<'_>) {
     for index in 0..all.len() {
         match all.get(index).and_then(|one| one.address()) {
-            Some(address) => write!(line, " {address}")?,
-            None => write!(line, " -")?,
+            Some(address) => write!(line, " {address}"),
+            None => line.push_str(" -"),
         }
     }
-    Ok(())
+}
+
+/// Adds ranges that are deleted.
+fn add_deleted_ranges(line: &mut Line, ranges: &Result<Vec<(u64, u64)>, AllocError>) {
+    match ranges {
+        Ok(ranges) => {
+            for (start, len) in ranges {
+                write!(line, " less {len} at {start}");
+            }
+        }
+        Err(_) => line.run_out(),
+    }
 }
 
 /// Adds which ranges are deleted of the section of an object with this index.
-fn add_deleted(
-    alloc: Global,
-    line: &mut String,
-    object: &ObjectLayout<'_>,
-    index: usize,
-) -> Result<(), AllocError> {
+fn add_deleted(alloc: Global, line: &mut Line, object: &ObjectLayout<'_>, index: usize) {
     let Ok(index) = u32::try_from(index) else {
-        return Ok(());
+        return;
     };
     let deleted = object.section_relax_deltas;
     if let Some(deltas) = deleted.and_then(|all| all.get(index)) {
-        let ranges = deltas.ranges(alloc)?;
-        for (start, len) in &ranges {
-            write!(line, " less {len} at {start}")?;
-        }
+        add_deleted_ranges(line, &deltas.ranges(alloc));
     }
-    Ok(())
 }
 
 /// Adds what became of each section of an object, and which ranges of it are deleted.
-fn add_sections(
-    alloc: Global,
-    line: &mut String,
-    object: &ObjectLayout<'_>,
-) -> Result<(), AllocError> {
-    write!(line, " of")?;
+fn add_sections(alloc: Global, line: &mut Line, object: &ObjectLayout<'_>) {
+    line.push_str(" of");
     for index in 0..object.sections.len() {
-        add_slot(line, object, index)?;
-        add_deleted(alloc, line, object, index)?;
+        add_slot(line, object, index);
+        add_deleted(alloc, line, object, index);
     }
-    Ok(())
 }
 
 /// Adds what became of the section of an object with this index.
-fn add_slot(line: &mut String, object: &ObjectLayout<'_>, index: usize) -> Result<(), AllocError> {
+fn add_slot(line: &mut Line, object: &ObjectLayout<'_>, index: usize) {
     let Ok(index) = u32::try_from(index) else {
-        return Ok(());
+        return;
     };
     match object.sections.get(index) {
         Some(slot) => write!(line, " {slot:?}"),
-        None => write!(line, " none"),
+        None => line.push_str(" none"),
     }
 }
 
 /// Adds what is told of an object.
-fn add_object(
-    alloc: Global,
-    line: &mut String,
-    object: &ObjectLayout<'_>,
-) -> Result<(), AllocError> {
+fn add_object(alloc: Global, line: &mut Line, object: &ObjectLayout<'_>) {
     let first = object.symbol_id_range.start;
-    write!(line, " from {first} at")?;
-    add_resolutions(line, &object.section_resolutions)?;
-    add_sections(alloc, line, object)?;
+    write!(line, " from {first} at");
+    add_resolutions(line, &object.section_resolutions);
+    add_sections(alloc, line, object);
     let block = object.thunk_block_id.as_usize();
-    write!(line, " block {block}")?;
+    write!(line, " block {block}");
     if object.owns_thunk_block {
-        write!(line, " owned")?;
+        line.push_str(" owned");
     }
-    Ok(())
 }
 
 /// Adds what is told of a file.
-fn add_file_layout(
-    alloc: Global,
-    line: &mut String,
-    file: &FileLayout<'_>,
-) -> Result<(), AllocError> {
-    write!(line, " {file:?}")?;
+fn add_file_layout(alloc: Global, line: &mut Line, file: &FileLayout<'_>) {
+    write!(line, " {file:?}");
     match file {
         FileLayout::Object(object) => add_object(alloc, line, object),
         FileLayout::Prelude(prelude) => {
@@ -230,7 +203,7 @@ fn add_file_layout(
             let start = epilogue.dynsym_start_index;
             write!(line, " {start}")
         }
-        _ => Ok(()),
+        _ => {}
     }
 }
 
@@ -238,56 +211,44 @@ fn add_file_layout(
 const TOLD: u32 = 8;
 
 /// Adds what is told of a group.
-fn add_group(
-    alloc: Global,
-    line: &mut String,
-    group: &GroupLayout<'_, '_>,
-) -> Result<(), AllocError> {
+fn add_group(alloc: Global, line: &mut Line, group: &GroupLayout<'_, '_>) {
     let (names, dynamic) = (group.strtab_start_offset, group.dynstr_start_offset);
     let locals = group.symtab_local_start_index;
     let globals = group.symtab_global_start_index;
-    write!(line, "{group} {names} {dynamic} {locals} {globals} [")?;
+    write!(line, "{group} {names} {dynamic} {locals} {globals} [");
     for number in 0..TOLD {
         if let Some(file) = group.files.get(number) {
-            add_file_layout(alloc, line, &file)?;
+            add_file_layout(alloc, line, &file);
         }
     }
-    write!(line, " ]")
+    line.push_str(" ]")
 }
 
 /// Adds what is told of all groups.
-fn add_groups(alloc: Global, line: &mut String, layout: &Layout<'_>) -> Result<(), AllocError> {
+fn add_groups(alloc: Global, line: &mut Line, layout: &Layout<'_>) {
     let groups = layout.group_layouts();
     for number in 0..TOLD {
         if let Some(group) = groups.get(number) {
-            if number > 0 {
-                line.push_str(", ")?;
-            }
-            add_group(alloc, line, &group)?;
+            line.add_comma();
+            add_group(alloc, line, &group);
         }
     }
-    Ok(())
 }
 
 /// Adds what is told of the groups of what was computed.
-fn add_groups_in(
-    alloc: Global,
-    line: &mut String,
-    computed: &Result<Layout<'_>, LayoutError>,
-) -> Result<(), AllocError> {
+fn add_groups_in(alloc: Global, line: &mut Line, computed: &Result<Layout<'_>, LayoutError>) {
     match computed {
         Ok(layout) => add_groups(alloc, line, layout),
-        Err(LayoutError::NoMemory) => Err(AllocError),
-        Err(_) => write!(line, "refused"),
+        Err(LayoutError::NoMemory) => line.run_out(),
+        Err(_) => line.push_str("refused"),
     }
 }
 
 /// Adds what is told of the groups of a link.
-pub fn add_told(alloc: Global, line: &mut String, link: &LinkInput) -> Result<(), AllocError> {
+pub fn add_told(alloc: Global, line: &mut Line, link: &LinkInput) {
     let computed = compute_alone(alloc, link, &Small64, &Small64Arch);
-    let added = add_groups_in(alloc, line, &computed);
+    add_groups_in(alloc, line, &computed);
     drop(computed);
-    added
 }
 
 /// Groups: what each is called, where it begins in the names of symbols and of dynamic symbols and among local symbols and the others, and
@@ -309,6 +270,6 @@ const GROUPS: &str = r#"# Three sections, and no tables.
 "#;
 
 #[test]
-fn groups_are_told_with_their_files(rt: HostRuntime) -> Result<(), Fail> {
-    expect_rows(&rt, rt.alloc(), Asked::Groups, GROUPS)
+fn groups_are_told_with_their_files(rt: HostRuntime) -> Result<(), Failed> {
+    expect_rows(&rt, rt.alloc(), &Asked::Groups, GROUPS)
 }

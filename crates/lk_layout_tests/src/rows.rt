@@ -1,4 +1,4 @@
-//! What rows ask here, and that the answers are theirs.
+//! What rows ask here.
 
 use crate::files::{add_moved, add_told};
 use crate::layout::{add_shared, add_workers};
@@ -6,11 +6,9 @@ use crate::lent::add_lent;
 use crate::queries::add_queries;
 use crate::writer::add_written;
 use lk_input::read_link;
-use lk_test_rows::{Row, rows_of};
-use std::alloc::{AllocError, Global};
-use std::process::Abort;
+use lk_test_rows::{Asks, Line};
+use std::alloc::Global;
 use std::sync::Wait;
-use std::test::Fail;
 use std::thread::Threads;
 
 /// What is asked about a text.
@@ -38,10 +36,10 @@ pub enum Asked {
 fn add_linked(
     rt: &(impl Threads + Wait + Sync),
     alloc: Global,
-    line: &mut String,
+    line: &mut Line,
     asked: Asked,
     text: &str,
-) -> Result<(), AllocError> {
+) {
     match read_link(alloc, text.as_bytes()) {
         Ok(link) => match asked {
             Asked::Shared => add_shared(rt, alloc, line, &link),
@@ -52,7 +50,7 @@ fn add_linked(
 }
 
 /// Adds what is told where a section is moved, by the words in front of the text that stands for a link.
-fn add_worded(alloc: Global, line: &mut String, text: &str) -> Result<(), AllocError> {
+fn add_worded(alloc: Global, line: &mut Line, text: &str) {
     let (words, text) = text.split_once(" / ").unwrap_or(("", text));
     match read_link(alloc, text.as_bytes()) {
         Ok(link) => add_moved(alloc, line, &link, words),
@@ -61,7 +59,7 @@ fn add_worded(alloc: Global, line: &mut String, text: &str) -> Result<(), AllocE
 }
 
 /// Adds what is told of groups where the text stands for a link.
-fn add_all_groups(alloc: Global, line: &mut String, text: &str) -> Result<(), AllocError> {
+fn add_all_groups(alloc: Global, line: &mut Line, text: &str) {
     match read_link(alloc, text.as_bytes()) {
         Ok(link) => add_told(alloc, line, &link),
         Err(error) => write!(line, "no link: {error}"),
@@ -69,70 +67,22 @@ fn add_all_groups(alloc: Global, line: &mut String, text: &str) -> Result<(), Al
 }
 
 /// Adds what is lent where the text stands for a link.
-fn add_all_lent(alloc: Global, line: &mut String, text: &str) -> Result<(), AllocError> {
+fn add_all_lent(alloc: Global, line: &mut Line, text: &str) {
     match read_link(alloc, text.as_bytes()) {
         Ok(link) => add_lent(alloc, line, &link),
         Err(error) => write!(line, "no link: {error}"),
     }
 }
 
-/// Adds what is answered.
-fn add_answer(
-    rt: &(impl Threads + Wait + Sync),
-    alloc: Global,
-    line: &mut String,
-    asked: Asked,
-    text: &str,
-) -> Result<(), AllocError> {
-    match asked {
-        Asked::Workers | Asked::Shared => add_linked(rt, alloc, line, asked, text),
-        Asked::Starts | Asked::Symbols => add_queries(alloc, line, asked, text),
-        Asked::Moved => add_worded(alloc, line, text),
-        Asked::Groups => add_all_groups(alloc, line, text),
-        Asked::Lent => add_all_lent(alloc, line, text),
-        Asked::Written => add_written(alloc, line, text),
+impl<R: Threads + Wait + Sync> Asks<R> for Asked {
+    fn tell(&self, rt: &R, alloc: Global, line: &mut Line, text: &str) {
+        match self {
+            Asked::Workers | Asked::Shared => add_linked(rt, alloc, line, *self, text),
+            Asked::Starts | Asked::Symbols => add_queries(alloc, line, *self, text),
+            Asked::Moved => add_worded(alloc, line, text),
+            Asked::Groups => add_all_groups(alloc, line, text),
+            Asked::Lent => add_all_lent(alloc, line, text),
+            Asked::Written => add_written(alloc, line, text),
+        }
     }
-}
-
-/// What is answered to a row.
-fn answer(
-    rt: &(impl Threads + Wait + Sync),
-    alloc: Global,
-    asked: Asked,
-    row: Row,
-) -> Result<String, AllocError> {
-    let text = row.text(alloc)?;
-    let mut line = String::new(alloc);
-    add_answer(rt, alloc, &mut line, asked, text.as_str())?;
-    Ok(line)
-}
-
-/// Wants this text of a row with this front.
-fn expect_answer(rt: &impl Abort, front: &str, found: &str, want: &str) {
-    assert_eq!(rt; found, want, "for {front}");
-}
-
-/// Wants a row's answer.
-fn expect_row(
-    rt: &(impl Abort + Threads + Wait + Sync),
-    alloc: Global,
-    asked: Asked,
-    row: Row,
-) -> Result<(), Fail> {
-    let line = answer(rt, alloc, asked, row)?;
-    expect_answer(rt, row.front, line.as_str(), row.want);
-    Ok(())
-}
-
-/// Wants each row's answer.
-pub fn expect_rows(
-    rt: &(impl Abort + Threads + Wait + Sync),
-    alloc: Global,
-    asked: Asked,
-    rows: &'static str,
-) -> Result<(), Fail> {
-    for row in rows_of(alloc, rows)? {
-        expect_row(rt, alloc, asked, row)?;
-    }
-    Ok(())
 }

@@ -5,7 +5,7 @@
 //! stand in the file, if they do; of each symbol what a relocation that names it computes with: the value of what stands for it, the words of
 //! its entry of the GOT for the value and for the thread-local offset, and its entry of the PLT; where thread-local data ends; and the entry.
 
-use crate::rows::{Asked, expect_rows};
+use crate::rows::Asked;
 use lk_answers::files::ObjectLayout;
 use lk_answers::{Answers, FileLayout, GroupLayout};
 use lk_compute::compute_alone;
@@ -13,9 +13,8 @@ use lk_input::read_link;
 use lk_layout::{Layout, LayoutError, Resolution, Small64Arch};
 use lk_link::{LinkInput, SectionSlot, Small64, SymbolId};
 use lk_place::OutputRecordLayout;
-use lk_test_rows::add;
-use std::alloc::{AllocError, Global};
-use std::test::Fail;
+use lk_test_rows::{Failed, Line, expect_rows};
+use std::alloc::Global;
 
 /// A symbol with this flag has a word of the GOT for its value.
 const VALUE_WORD: u32 = 128;
@@ -34,33 +33,27 @@ fn file_length(sections: &[OutputRecordLayout]) -> u64 {
 }
 
 /// Adds where something stands in memory and in the file.
-fn add_record(line: &mut String, one: &OutputRecordLayout) -> Result<(), AllocError> {
+fn add_record(line: &mut Line, one: &OutputRecordLayout) {
     let (address, bytes) = (one.mem_offset, one.mem_size);
     let (start, size) = (one.file_offset, one.file_size);
     write!(line, " {address}+{bytes} in {start}+{size}")
 }
 
 /// Adds where the output sections stand, each with its index among the emitted ones.
-fn add_output_sections(line: &mut String, layout: &Layout<'_>) -> Result<(), AllocError> {
+fn add_output_sections(line: &mut Line, layout: &Layout<'_>) {
     let indexes = layout.output_section_indexes();
     for (number, one) in layout.section_layouts().iter().enumerate() {
-        add(
-            line,
-            "section",
-            &indexes.get(number).copied().unwrap_or(None),
-        )?;
-        add_record(line, one)?;
+        line.add("section", &indexes.get(number).copied().unwrap_or(None));
+        add_record(line, one);
     }
-    Ok(())
 }
 
 /// Adds where the active segments stand.
-fn add_segments(line: &mut String, layout: &Layout<'_>) -> Result<(), AllocError> {
+fn add_segments(line: &mut Line, layout: &Layout<'_>) {
     for one in layout.segment_layouts() {
-        line.push_str(" segment")?;
-        add_record(line, &one.sizes)?;
+        line.push_str(" segment");
+        add_record(line, &one.sizes);
     }
-    Ok(())
 }
 
 /// Where bytes of a part at this address stand in the file: as far behind its start as in memory. None where the part has none there.
@@ -98,42 +91,31 @@ fn live_place(
 }
 
 /// Adds where the live sections of an object stand.
-fn add_object(
-    line: &mut String,
-    layout: &Layout<'_>,
-    object: &ObjectLayout<'_>,
-) -> Result<(), AllocError> {
+fn add_object(line: &mut Line, layout: &Layout<'_>, object: &ObjectLayout<'_>) {
     for index in 0..TOLD {
         if let Some(place) = live_place(layout, object, index) {
-            add(line, "live", &place)?;
+            line.add("live", &place);
         }
     }
-    Ok(())
 }
 
 /// Adds where the live sections of the files of a group stand.
-fn add_group(
-    line: &mut String,
-    layout: &Layout<'_>,
-    group: &GroupLayout<'_, '_>,
-) -> Result<(), AllocError> {
+fn add_group(line: &mut Line, layout: &Layout<'_>, group: &GroupLayout<'_, '_>) {
     for number in 0..TOLD {
         if let Some(FileLayout::Object(object)) = group.files.get(number) {
-            add_object(line, layout, &object)?;
+            add_object(line, layout, &object);
         }
     }
-    Ok(())
 }
 
 /// Adds where the live sections of all files stand.
-fn add_live(line: &mut String, layout: &Layout<'_>) -> Result<(), AllocError> {
+fn add_live(line: &mut Line, layout: &Layout<'_>) {
     let groups = layout.group_layouts();
     for number in 0..TOLD {
         if let Some(group) = groups.get(number) {
-            add_group(line, layout, &group)?;
+            add_group(line, layout, &group);
         }
     }
-    Ok(())
 }
 
 /// Where the word for a symbol's value stands in the GOT.
@@ -156,50 +138,45 @@ fn offset_word(of: &Resolution) -> Option<u64> {
 }
 
 /// Adds what relocations compute with.
-fn add_symbols(line: &mut String, layout: &Layout<'_>) -> Result<(), AllocError> {
+fn add_symbols(line: &mut Line, layout: &Layout<'_>) {
     for number in 0..TOLD {
         if let Some(of) = layout.merged_symbol_resolution(SymbolId::from_u32(number)) {
             let words = (value_word(&of), offset_word(&of));
-            write!(line, " symbol {number}")?;
-            add(line, "is", &(of.raw_value, words, of.plt))?;
+            write!(line, " symbol {number}");
+            line.add("is", &(of.raw_value, words, of.plt));
         }
     }
-    Ok(())
 }
 
 /// Adds all that is asked.
-fn add_layout(line: &mut String, layout: &Layout<'_>) -> Result<(), AllocError> {
-    add(line, "length", &file_length(layout.section_layouts()))?;
-    add_output_sections(line, layout)?;
-    add_segments(line, layout)?;
-    add_live(line, layout)?;
-    add_symbols(line, layout)?;
-    add(line, "thread", &layout.tls_end_address())?;
-    add(line, "entry", &layout.resolved_entry_symbol_address())
+fn add_layout(line: &mut Line, layout: &Layout<'_>) {
+    line.add("length", &file_length(layout.section_layouts()));
+    add_output_sections(line, layout);
+    add_segments(line, layout);
+    add_live(line, layout);
+    add_symbols(line, layout);
+    line.add("thread", &layout.tls_end_address());
+    line.add("entry", &layout.resolved_entry_symbol_address())
 }
 
 /// Adds what is answered of what was computed, or why there is nothing.
-fn add_computed(
-    line: &mut String,
-    computed: &Result<Layout<'_>, LayoutError>,
-) -> Result<(), AllocError> {
+fn add_computed(line: &mut Line, computed: &Result<Layout<'_>, LayoutError>) {
     match computed {
         Ok(layout) => add_layout(line, layout),
-        Err(LayoutError::NoMemory) => Err(AllocError),
+        Err(LayoutError::NoMemory) => line.run_out(),
         Err(error) => write!(line, "refused: {error:?}"),
     }
 }
 
 /// Adds what is answered of a link.
-fn add_link(alloc: Global, line: &mut String, link: &LinkInput) -> Result<(), AllocError> {
+fn add_link(alloc: Global, line: &mut Line, link: &LinkInput) {
     let computed = compute_alone(alloc, link, &Small64, &Small64Arch);
-    let added = add_computed(line, &computed);
+    add_computed(line, &computed);
     drop(computed);
-    added
 }
 
 /// Adds what a writer is answered where the text stands for a link.
-pub fn add_written(alloc: Global, line: &mut String, text: &str) -> Result<(), AllocError> {
+pub fn add_written(alloc: Global, line: &mut Line, text: &str) {
     match read_link(alloc, text.as_bytes()) {
         Ok(link) => add_link(alloc, line, &link),
         Err(error) => write!(line, "no link: {error}"),
@@ -218,6 +195,6 @@ const ASKED: &str = r#"
 "#;
 
 #[test]
-fn writers_are_answered(rt: HostRuntime) -> Result<(), Fail> {
-    expect_rows(&rt, rt.alloc(), Asked::Written, ASKED)
+fn writers_are_answered(rt: HostRuntime) -> Result<(), Failed> {
+    expect_rows(&rt, rt.alloc(), &Asked::Written, ASKED)
 }

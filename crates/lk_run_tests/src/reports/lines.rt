@@ -1,8 +1,8 @@
 //! Reports of layouts, and refusals.
 
-use crate::rows::{Asked, expect_rows};
+use crate::rows::Asked;
 use crate::runs::expect_reports;
-use std::test::Fail;
+use lk_test_rows::{Failed, expect_rows};
 
 /// Descriptions with their reports.
 const REPORTED: &str = r#"# The smallest.
@@ -255,7 +255,7 @@ entry -
 end"#;
 
 #[test]
-fn layouts_are_reported(rt: HostRuntime) -> Result<(), Fail> {
+fn layouts_are_reported(rt: HostRuntime) -> Result<(), Failed> {
     expect_reports(&rt, rt.alloc(), REPORTED)
 }
 
@@ -298,6 +298,6 @@ const REFUSED: &str = r#"
 "#;
 
 #[test]
-fn refusals_are_told(rt: HostRuntime) -> Result<(), Fail> {
-    expect_rows(&rt, rt.alloc(), Asked::Run, REFUSED)
+fn refusals_are_told(rt: HostRuntime) -> Result<(), Failed> {
+    expect_rows(&rt, rt.alloc(), &Asked::Run, REFUSED)
 }

@@ -1,8 +1,8 @@
 //! Layouts with thunks: what is reported of their blocks, and branches that don't reach.
 
-use crate::rows::{Asked, expect_rows};
+use crate::rows::Asked;
 use crate::runs::expect_reports;
-use std::test::Fail;
+use lk_test_rows::{Failed, expect_rows};
 
 /// Descriptions with their reports.
 const REPORTED: &str =
@@ -318,7 +318,7 @@ entry -
 end"#;
 
 #[test]
-fn thunks_are_told_where_they_stand(rt: HostRuntime) -> Result<(), Fail> {
+fn thunks_are_told_where_they_stand(rt: HostRuntime) -> Result<(), Failed> {
     expect_reports(&rt, rt.alloc(), REPORTED)
 }
 
@@ -349,6 +349,6 @@ Relative | Got => 1 out of reach: branch 1 0 0 0
 "#;
 
 #[test]
-fn branches_that_reach_nothing_are_refused(rt: HostRuntime) -> Result<(), Fail> {
-    expect_rows(&rt, rt.alloc(), Asked::Run, REFUSED)
+fn branches_that_reach_nothing_are_refused(rt: HostRuntime) -> Result<(), Failed> {
+    expect_rows(&rt, rt.alloc(), &Asked::Run, REFUSED)
 }

@@ -1,8 +1,8 @@
 //! Symbols of the linker's own files and of scripts, and what redirects come to.
 
-use crate::rows::{Asked, expect_rows};
+use crate::rows::Asked;
 use crate::runs::expect_reports;
-use std::test::Fail;
+use lk_test_rows::{Failed, expect_rows};
 
 /// Descriptions with their reports.
 const REPORTED: &str =
@@ -128,7 +128,7 @@ entry -
 end"#;
 
 #[test]
-fn own_symbols_have_their_values(rt: HostRuntime) -> Result<(), Fail> {
+fn own_symbols_have_their_values(rt: HostRuntime) -> Result<(), Failed> {
     expect_reports(&rt, rt.alloc(), REPORTED)
 }
 
@@ -149,6 +149,6 @@ const REFUSED: &str = r#"
 "#;
 
 #[test]
-fn redirects_without_a_value_are_refused(rt: HostRuntime) -> Result<(), Fail> {
-    expect_rows(&rt, rt.alloc(), Asked::Run, REFUSED)
+fn redirects_without_a_value_are_refused(rt: HostRuntime) -> Result<(), Failed> {
+    expect_rows(&rt, rt.alloc(), &Asked::Run, REFUSED)
 }
