@@ -254,7 +254,11 @@ fn add_places(alloc: Global, line: &mut Line, all: Unshrunk<'_>)
     requires { IsWellFormed all.link.now }
 {
     add_sections(line, all.sections);
-    add_symbols(line, all.symbols, all.link.groups.symbol_count().min(64) as u32);
+    add_symbols(
+        line,
+        all.symbols,
+        all.link.groups.symbol_count().min(64) as u32,
+    );
     add_found(alloc, line, all)
 }
 
@@ -450,7 +454,10 @@ fn add_moved(line: &mut Line, deltas: &Result<SectionRelaxDeltas, AllocError>) {
 fn add_offsets(alloc: Global, line: &mut Line) {
     add_kept(line);
     add_moved(line, &SectionRelaxDeltas::new(alloc, &[(4, 4)]));
-    add_moved(line, &SectionRelaxDeltas::new(alloc, &[(0, 1), (4, 2), (6, 2)]))
+    add_moved(
+        line,
+        &SectionRelaxDeltas::new(alloc, &[(0, 1), (4, 2), (6, 2)]),
+    )
 }
 
 #[test]

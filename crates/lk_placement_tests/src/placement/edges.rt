@@ -484,7 +484,12 @@ pub fn add_edged(alloc: Global, line: &mut Line, row: &str) {
 
 #[test]
 fn symbols_stand_at_edges(rt: HostRuntime) -> Result<(), Failed> {
-    expect_rows(&rt, rt.alloc(), &Asked::Placement(OfPlacement::Edged), EDGES)
+    expect_rows(
+        &rt,
+        rt.alloc(),
+        &Asked::Placement(OfPlacement::Edged),
+        EDGES,
+    )
 }
 
 #[test]

@@ -373,5 +373,10 @@ fn regions_constants_and_base_come_before_the_first_event(rt: HostRuntime) -> Re
 
 #[test]
 fn plain_plans_are_told(rt: HostRuntime) -> Result<(), Failed> {
-    expect_rows(&rt, rt.alloc(), &Asked::Placement(OfPlacement::Plain), PLAIN)
+    expect_rows(
+        &rt,
+        rt.alloc(),
+        &Asked::Placement(OfPlacement::Plain),
+        PLAIN,
+    )
 }

@@ -513,7 +513,12 @@ fn load_segments_open_nested_and_across(rt: HostRuntime) -> Result<(), Failed> {
 
 #[test]
 fn thread_local_rows_are_rounded_up_anew(rt: HostRuntime) -> Result<(), Failed> {
-    expect_rows(&rt, rt.alloc(), &Asked::Placement(OfPlacement::Walked), RUNS)
+    expect_rows(
+        &rt,
+        rt.alloc(),
+        &Asked::Placement(OfPlacement::Walked),
+        RUNS,
+    )
 }
 
 #[test]
@@ -528,7 +533,12 @@ fn secondaries_go_by_their_primaries(rt: HostRuntime) -> Result<(), Failed> {
 
 #[test]
 fn numbers_go_to_their_end_and_not_past_it(rt: HostRuntime) -> Result<(), Failed> {
-    expect_rows(&rt, rt.alloc(), &Asked::Placement(OfPlacement::Walked), ENDS)
+    expect_rows(
+        &rt,
+        rt.alloc(),
+        &Asked::Placement(OfPlacement::Walked),
+        ENDS,
+    )
 }
 
 #[test]

@@ -227,7 +227,10 @@ fn add_counted(alloc: Global, line: &mut Line, link: &LinkInput, live: &Live, ow
 {
     let contents = owners.contents();
     line.add("parts", &contents);
-    line.add_made("attributes", &propagate_section_attributes(alloc, link, live));
+    line.add_made(
+        "attributes",
+        &propagate_section_attributes(alloc, link, live),
+    );
     match &part_sizes(alloc, owners) {
         Ok(sizes) => add_behind(alloc, line, link, contents, sizes),
         Err(_) => line.run_out(),

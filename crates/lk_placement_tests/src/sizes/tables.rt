@@ -116,7 +116,10 @@ fn add_by_header(
     requires { IsWellFormed link.now }
 {
     line.add_made("copied", &copied_names(alloc, link, live));
-    line.add_made("symbols", &symbol_sizes(alloc, link, &Small64, live, header));
+    line.add_made(
+        "symbols",
+        &symbol_sizes(alloc, link, &Small64, live, header),
+    );
     add_whole(alloc, line, link, live, header, shares);
     line.add("headers", &header_sizes(link, &Small64, header));
     line.add_made("dynamic", &dynamic_table(alloc, link, live, header))
