@@ -307,12 +307,7 @@ fn add_cuts(line: &mut Line, groups: &[SectionGroup]) {
 }
 
 /// Adds the bytes of all inputs of an output section, their starts, and the groups of about so many into which they are cut.
-fn add_groups(
-    alloc: Global,
-    line: &mut Line,
-    inputs: &StringMergeInputSections<'_>,
-    size: u64,
-)
+fn add_groups(alloc: Global, line: &mut Line, inputs: &StringMergeInputSections<'_>, size: u64)
     requires positive { 0 < size }
     requires blocks { size % 256 ≡ 0 }
 {
@@ -814,10 +809,7 @@ fn add_made(line: &mut Line) {
 fn add_taken(line: &mut Line, data: &[u8]) {
     let mut source = data;
     let taken = MergeString::take_string_hashed(&mut source);
-    line.add(
-        "taken",
-        &(taken.map(|string| string.as_bytes()), source),
-    )
+    line.add("taken", &(taken.map(|string| string.as_bytes()), source))
 }
 
 /// Adds some bytes as the piece that they are shows them.

@@ -96,13 +96,7 @@ fn add_found(
 }
 
 /// Adds what is answered of units of the link that a description is.
-fn add_of_units(
-    alloc: Global,
-    asked: OfPaths,
-    line: &mut Line,
-    description: &str,
-    units: &[Unit],
-) {
+fn add_of_units(alloc: Global, asked: OfPaths, line: &mut Line, description: &str, units: &[Unit]) {
     let link = read_link(alloc, description.as_bytes());
     add_found(alloc, asked, line, &link, units)
 }

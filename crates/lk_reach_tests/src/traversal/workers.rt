@@ -278,7 +278,12 @@ pub fn add_walks(
 
 #[test]
 fn groups_run_in_turn(rt: HostRuntime) -> Result<(), Failed> {
-    expect_rows(&rt, rt.alloc(), &Asked::Traversal(OfTraversal::Turns), TURNS)
+    expect_rows(
+        &rt,
+        rt.alloc(),
+        &Asked::Traversal(OfTraversal::Turns),
+        TURNS,
+    )
 }
 
 #[test]
@@ -293,5 +298,10 @@ fn two_workers_run_in_lock_step(rt: HostRuntime) -> Result<(), Failed> {
 
 #[test]
 fn no_worker_finds_nothing(rt: HostRuntime) -> Result<(), Failed> {
-    expect_rows(&rt, rt.alloc(), &Asked::Traversal(OfTraversal::Walks), WALKS)
+    expect_rows(
+        &rt,
+        rt.alloc(),
+        &Asked::Traversal(OfTraversal::Walks),
+        WALKS,
+    )
 }
