@@ -36,7 +36,10 @@ fn add_sorted(line: &mut Line, layout: &Layout<'_>) {
     for one in layout.script_sorted_sections() {
         let (file, index, part) = (one.file_id, one.section_index, one.part_id.as_u32());
         let (size, alignment) = (one.size, one.alignment);
-        write!(line, " {file} {index} in {part} takes {size} by {alignment}");
+        write!(
+            line,
+            " {file} {index} in {part} takes {size} by {alignment}"
+        );
     }
 }
 

@@ -147,12 +147,7 @@ fn add_taken(line: &mut Line, word: &str, status: Status, sink: &MemorySink) {
 }
 
 /// Adds how a run ends whose sink takes nothing, and what it has taken.
-fn add_full(
-    rt: &(impl Threads + Wait + Sync),
-    alloc: Global,
-    line: &mut Line,
-    trial: &Trial<'_>,
-) {
+fn add_full(rt: &(impl Threads + Wait + Sync), alloc: Global, line: &mut Line, trial: &Trial<'_>) {
     match slow_run(rt, alloc, trial, 0) {
         Ok((status, sink)) => add_taken(line, "full", status, &sink),
         Err(_) => line.run_out(),
@@ -175,12 +170,7 @@ fn add_failing(
 
 /// Adds how a run ends whose source gives and whose sink takes one byte with each call, and the text that was taken; and how the others
 /// end.
-fn add_trial(
-    rt: &(impl Threads + Wait + Sync),
-    alloc: Global,
-    line: &mut Line,
-    trial: &Trial<'_>,
-) {
+fn add_trial(rt: &(impl Threads + Wait + Sync), alloc: Global, line: &mut Line, trial: &Trial<'_>) {
     match slow_run(rt, alloc, trial, 1) {
         Ok((status, sink)) => {
             add_taken(line, "slow", status, &sink);

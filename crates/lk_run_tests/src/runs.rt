@@ -156,12 +156,7 @@ fn both_ends(
 
 /// Adds how the words before the first colon of a row end over what is behind it, in which line feeds are slashes, and whether they end
 /// so by workers too.
-pub fn add_ends(
-    rt: &(impl Threads + Wait + Sync),
-    alloc: Global,
-    line: &mut Line,
-    row: &str,
-) {
+pub fn add_ends(rt: &(impl Threads + Wait + Sync), alloc: Global, line: &mut Line, row: &str) {
     let (words, input) = row.split_once(':').unwrap_or((row, ""));
     match both_ends(rt, alloc, words, input.trim_start()) {
         Ok((alone, is_alike)) => {
@@ -177,18 +172,12 @@ fn add_taken(line: &mut Line, status: Option<Status>, sink: &MemorySink) {
     line.add("status", &status);
     match status {
         Some(Status::Done) => line.add("bytes", &sink.written()),
-        _ => line.add(
-            "text",
-            &str::from_utf8(sink.written()).unwrap_or("no text"),
-        ),
+        _ => line.add("text", &str::from_utf8(sink.written()).unwrap_or("no text")),
     }
 }
 
 /// How `image 0` ends over an input on the caller's own thread, and its sink.
-fn image_alone(
-    alloc: Global,
-    input: &str,
-) -> Result<(Option<Status>, MemorySink), AllocError> {
+fn image_alone(alloc: Global, input: &str) -> Result<(Option<Status>, MemorySink), AllocError> {
     let mut source = MemorySource::new(input.as_bytes().to_vec(alloc)?, 100, Vec::new(alloc));
     let mut sink = MemorySink::new(alloc, ROOM, 7, Vec::new(alloc))?;
     let words = words_of(alloc, "image 0")?;
@@ -212,12 +201,7 @@ fn is_image_by_workers(
 }
 
 /// Adds the image that `image 0` writes over an input on the caller's own thread, and whether `image 2` does so by workers.
-pub fn add_image(
-    rt: &(impl Threads + Wait + Sync),
-    alloc: Global,
-    line: &mut Line,
-    input: &str,
-) {
+pub fn add_image(rt: &(impl Threads + Wait + Sync), alloc: Global, line: &mut Line, input: &str) {
     match image_alone(alloc, input) {
         Ok((status, sink)) => {
             add_taken(line, status, &sink);
@@ -237,12 +221,7 @@ fn add_framed(alloc: Global, line: &mut Line, frame: Frame, front: &str) {
 }
 
 /// Wants a block as it is to be: what its first line says, and below it how a run over that, in its frame, ends.
-fn expect_block(
-    rt: &impl Eprint,
-    alloc: Global,
-    frame: Frame,
-    block: &str,
-) -> Result<(), Failed> {
+fn expect_block(rt: &impl Eprint, alloc: Global, frame: Frame, block: &str) -> Result<(), Failed> {
     let (front, _) = block.split_once('\n').unwrap_or((block, ""));
     let mut line = Line::new(alloc);
     line.push_str(front);
@@ -268,11 +247,7 @@ fn expect_block_by_workers(
 /// Wants how a run over each description of a text ends. Below the line of a description stand the status and the lines of its report,
 /// and behind them an empty line; above it may stand a remark. A block that begins with `@` is a frame, and holds for the blocks below
 /// it: their first lines stand in place of its dots.
-pub fn expect_reports(
-    rt: &impl Eprint,
-    alloc: Global,
-    blocks: &'static str,
-) -> Result<(), Failed> {
+pub fn expect_reports(rt: &impl Eprint, alloc: Global, blocks: &'static str) -> Result<(), Failed> {
     let mut frame = NO_FRAME;
     for block in blocks.split("\n\n") {
         let block = without_remark(block);

@@ -129,12 +129,7 @@ fn add_runs(rt: &(impl Threads + Wait + Sync), alloc: Global, line: &mut Line, w
 }
 
 /// Adds how runs with the words of a row end.
-pub fn add_both_runs(
-    rt: &(impl Threads + Wait + Sync),
-    alloc: Global,
-    line: &mut Line,
-    row: &str,
-) {
+pub fn add_both_runs(rt: &(impl Threads + Wait + Sync), alloc: Global, line: &mut Line, row: &str) {
     match words_of(alloc, row) {
         Ok(words) => add_runs(rt, alloc, line, &words),
         Err(_) => line.run_out(),
