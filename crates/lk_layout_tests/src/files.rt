@@ -1,6 +1,6 @@
 //! Layouts whose sections are moved in the file, and what is told of groups and files.
 
-use crate::rows::Asked;
+use crate::rows::{Asked, expect_rows};
 use lk_answers::files::ObjectLayout;
 use lk_answers::section_resolution::SectionResolutions;
 use lk_answers::{Answers, FileLayout, GroupLayout};
@@ -9,7 +9,7 @@ use lk_layout::{Layout, LayoutError, Small64Arch};
 use lk_link::ids::OutputSectionId;
 use lk_link::{LinkInput, Small64};
 use lk_place::{OutputRecordLayout, SegmentFileLayout};
-use lk_test_rows::{Failed, Line, expect_rows};
+use lk_test_rows::{Failed, Line};
 use std::alloc::{AllocError, Global};
 
 /// Where a section is to go, and in which kind of file.

@@ -2,13 +2,13 @@
 
 ghost use Rattle.std.specs.Prelude.{◌≡◌, ◌≤◌, true};
 
-use crate::rows::Asked;
+use crate::rows::{Asked, expect_rows};
 use lk_check::check_link;
 use lk_compute::compute;
 use lk_layout::{Layout, LayoutError, Small64Arch};
 use lk_link::{Gate, LinkInput, NoGate, Small64};
 use lk_report::report_text_by_workers;
-use lk_test_rows::{Failed, Line, expect_rows};
+use lk_test_rows::{Failed, Line};
 use std::alloc::{AllocError, Global};
 use std::sync::Wait;
 use std::sync::atomic::{AtomicU64, Ordering};

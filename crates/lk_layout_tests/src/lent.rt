@@ -7,13 +7,13 @@
 //! all groups; where the sections of the second group's first file stand, and what symbols at their starts would stand for; and what is
 //! told of the linker's own file and of the entry.
 
-use crate::rows::Asked;
+use crate::rows::{Asked, expect_rows};
 use lk_answers::files::ObjectLayout;
 use lk_answers::{Answers, FileLayout, SectionResolution};
 use lk_compute::compute_alone;
 use lk_layout::{Layout, LayoutError, Small64Arch};
 use lk_link::{LinkInput, Small64};
-use lk_test_rows::{Failed, Line, expect_rows};
+use lk_test_rows::{Failed, Line};
 use std::alloc::{AllocError, Global};
 
 /// Adds how many thunks there are, and where they begin.

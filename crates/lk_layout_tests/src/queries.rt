@@ -6,13 +6,13 @@
 //! description. The answer is, for each symbol there and for the next one, the flags of its definition, its own value with its flags, those of
 //! the definition, and the same as an interposable one; and then what the range has.
 
-use crate::rows::Asked;
+use crate::rows::{Asked, expect_rows};
 use lk_answers::Answers;
 use lk_compute::compute_alone;
 use lk_input::read_link;
 use lk_layout::{Layout, LayoutError, Resolution, Small64Arch};
 use lk_link::{LinkInput, OutputSectionId, Small64, SymbolId, SymbolIdRange, ValueFlags};
-use lk_test_rows::{Failed, Line, expect_rows};
+use lk_test_rows::{Failed, Line};
 use std::alloc::{AllocError, Global};
 
 /// Starts.

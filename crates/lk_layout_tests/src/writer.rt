@@ -5,7 +5,7 @@
 //! stand in the file, if they do; of each symbol what a relocation that names it computes with: the value of what stands for it, the words of
 //! its entry of the GOT for the value and for the thread-local offset, and its entry of the PLT; where thread-local data ends; and the entry.
 
-use crate::rows::Asked;
+use crate::rows::{Asked, expect_rows};
 use lk_answers::files::ObjectLayout;
 use lk_answers::{Answers, FileLayout, GroupLayout};
 use lk_compute::compute_alone;
@@ -13,7 +13,7 @@ use lk_input::read_link;
 use lk_layout::{Layout, LayoutError, Resolution, Small64Arch};
 use lk_link::{LinkInput, SectionSlot, Small64, SymbolId};
 use lk_place::OutputRecordLayout;
-use lk_test_rows::{Failed, Line, expect_rows};
+use lk_test_rows::{Failed, Line};
 use std::alloc::Global;
 
 /// A symbol with this flag has a word of the GOT for its value.

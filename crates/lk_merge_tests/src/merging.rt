@@ -6,7 +6,7 @@ ghost use Rattle.lk_link.specs.WellFormed.{IsWellFormed};
 ghost use Rattle.lk_merge.specs.Addresses.{AreStartsOf};
 ghost use Rattle.lk_merge.specs.LinkInputs.{link_inputs};
 
-use crate::rows::Asked;
+use crate::rows::{Asked, expect_rows};
 use lk_check::check_link;
 use lk_input::read_link;
 use lk_link::{FileId, Gate, LinkInput, List, NoGate, OutputSectionId, Relocation, SymbolId};
@@ -16,7 +16,7 @@ use lk_merge::{
     StringMergeInputs, find_string, get_merged_string_output_address, merge_strings,
     merge_strings_alone, split_sections, total_input_size,
 };
-use lk_test_rows::{Failed, Line, expect_rows};
+use lk_test_rows::{Failed, Line};
 use std::alloc::Global;
 use std::sync::Wait;
 use std::sync::atomic::{AtomicU64, Ordering};

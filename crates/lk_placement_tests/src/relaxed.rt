@@ -13,7 +13,7 @@ ghost use Rattle.lk_sizes.specs.Contents.{size_refusal};
 ghost use Rattle.lk_sizes.specs.Sizing.{AreFilled};
 ghost use Rattle.lk_relax.specs.Relaxed.{ArePlacedFirst, own_filling, relaxing};
 
-use crate::rows::Asked;
+use crate::rows::{Asked, expect_rows};
 use lk_check::check_link;
 use lk_deltas::{
     RelaxDeltaMap, SectionRelaxDeltas, opt_input_to_output, split_ordered_symbol_ranges,
@@ -28,7 +28,7 @@ use lk_relax::{
     relaxation_scan_pass,
 };
 use lk_sizes::{PartOwners, SizeError, plain_owners};
-use lk_test_rows::{Failed, Line, expect_rows};
+use lk_test_rows::{Failed, Line};
 use std::alloc::{AllocError, Global};
 
 /// What passes delete, and where all is placed then.

@@ -8,8 +8,9 @@ use lk_link::{
     Emit, LinkFault, LinkInput, List, OrderEvent, OutputSectionId, PlanPart, PlanSection,
     PlanSections, Text,
 };
-use lk_test_rows::{Asks, Failed, Line, expect_rows, groups_of, with_groups};
+use lk_test_rows::{Failed, Line, Row, expect_rows, groups_of, rows_of, with_groups};
 use std::alloc::{AllocError, Global};
+use std::io::Eprint;
 use std::thread::Threads;
 
 /// Adds what the check answers, as the refusal's text tells it.
@@ -499,18 +500,36 @@ fn add_check_by_groups<R: Threads + Sync>(
     }
 }
 
-/// What rows ask of the check that goes by groups.
-struct ByGroups;
-
-impl<R: Threads + Sync> Asks<R> for ByGroups {
-    fn tell(&self, rt: &R, alloc: Global, line: &mut Line, text: &str) {
-        add_check_by_groups(rt, line, &read_link(alloc, text.as_bytes()))
+/// Adds what it answers to a row.
+fn add_row_by_groups<R: Threads + Sync>(rt: &R, alloc: Global, line: &mut Line, row: Row) {
+    match row.text(alloc) {
+        Ok(text) => add_check_by_groups(rt, line, &read_link(alloc, text.as_bytes())),
+        Err(_) => line.run_out(),
     }
+}
+
+/// Wants its answer to a row.
+fn expect_row_by_groups<R: Eprint + Threads + Sync>(
+    rt: &R,
+    alloc: Global,
+    row: Row,
+) -> Result<(), Failed> {
+    let mut line = Line::new(alloc);
+    add_row_by_groups(rt, alloc, &mut line, row);
+    line.expect_row(rt, alloc, row)
 }
 
 #[test]
 fn each_rule_is_kept_or_broken_by_groups(rt: HostRuntime) -> Result<(), Failed> {
-    expect_rows(&rt, rt.alloc(), &ByGroups, RULES)
+    match rows_of(rt.alloc(), RULES) {
+        Ok(rows) => {
+            for row in rows {
+                expect_row_by_groups(&rt, rt.alloc(), row)?;
+            }
+            Ok(())
+        }
+        Err(_) => Err(Failed::NoMemory),
+    }
 }
 
 /// How many parts the one section of a link has and how many events its plan.

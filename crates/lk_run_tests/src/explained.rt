@@ -1,7 +1,7 @@
 //! Why sections are kept, as runs tell it.
 
-use crate::rows::Asked;
-use lk_test_rows::{Failed, expect_rows};
+use crate::rows::{Asked, expect_rows};
+use lk_test_rows::Failed;
 
 /// What can't be read; links that are past a limit, one of which breaks a rule too, and one that breaks a rule; one of which only the layout is refused; a section that refers to a symbol at a second
 /// one, and a third that isn't reached; the members of a section group.

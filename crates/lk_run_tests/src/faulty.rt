@@ -1,10 +1,10 @@
 //! Runs whose devices give and take little, or fail at one of their calls, and runs over a description that is cut.
 
 use crate::ends::{ROOM, words_of};
-use crate::rows::Asked;
+use crate::rows::{Asked, expect_rows};
 use lk_link::NoGate;
 use lk_run::{MemorySink, MemorySource, Status, run};
-use lk_test_rows::{Failed, Line, expect_rows};
+use lk_test_rows::{Failed, Line};
 use std::alloc::{AllocError, Global};
 use std::str;
 use std::sync::Wait;

@@ -1,8 +1,8 @@
 //! Descriptions that are made to go wrong: circles, lists that are too long, sizes at the end of what a number holds, two places in one.
 
-use crate::rows::Asked;
+use crate::rows::{Asked, expect_rows};
 use crate::runs::{expect_reports, expect_reports_by_workers};
-use lk_test_rows::{Failed, expect_rows};
+use lk_test_rows::Failed;
 
 /// Those that are laid out all the same, with their reports.
 const REPORTED: &str =

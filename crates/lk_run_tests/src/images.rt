@@ -1,7 +1,7 @@
 //! Images, as runs write them.
 
-use crate::rows::Asked;
-use lk_test_rows::{Failed, expect_rows};
+use crate::rows::{Asked, expect_rows};
+use lk_test_rows::Failed;
 
 /// Three sections with data; a reference to the second; what overlaps, over zeros; debug data; no section; what stands nowhere; merged
 /// strings; what isn't live, output that is linked again, zero-fill data, a moved location, addends that wrap, and no resolution. Then

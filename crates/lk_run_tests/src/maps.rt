@@ -1,7 +1,7 @@
 //! Maps, as runs check them.
 
-use crate::rows::Asked;
-use lk_test_rows::{Failed, expect_rows};
+use crate::rows::{Asked, expect_rows};
+use lk_test_rows::Failed;
 
 /// Texts that are no map; maps that are good, of which the first has nothing in it; the report of three sections among them; and each fault of one.
 const CHECKED: &str = r#"

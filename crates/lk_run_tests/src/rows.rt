@@ -3,8 +3,9 @@
 use crate::faulty::{add_faulty_run, add_faulty_runs};
 use crate::runs::{add_end, add_end_by_workers, add_ends, add_image, add_lock_step, add_words};
 use crate::words::{add_both_runs, add_generated};
-use lk_test_rows::{Asks, Line};
+use lk_test_rows::{Failed, Line, Row, rows_of};
 use std::alloc::Global;
+use std::io::Eprint;
 use std::sync::Wait;
 use std::thread::Threads;
 
@@ -33,19 +34,76 @@ pub enum Asked {
     FaultyRun,
 }
 
-impl<R: Threads + Wait + Sync> Asks<R> for Asked {
-    fn tell(&self, rt: &R, alloc: Global, line: &mut Line, text: &str) {
-        match self {
-            Asked::LockStep => add_lock_step(rt, alloc, line, text),
-            Asked::Run => add_end(alloc, line, text),
-            Asked::RunByWorkers => add_end_by_workers(rt, alloc, line, text),
-            Asked::Words => add_words(alloc, line, text),
-            Asked::BothRuns => add_both_runs(rt, alloc, line, text),
-            Asked::Ends => add_ends(rt, alloc, line, text),
-            Asked::Image => add_image(rt, alloc, line, text),
-            Asked::Generated => add_generated(alloc, line, text),
-            Asked::Faulty => add_faulty_runs(rt, alloc, line, text),
-            Asked::FaultyRun => add_faulty_run(rt, alloc, line, text),
-        }
+/// Adds what is answered.
+fn add_answer(
+    rt: &(impl Threads + Wait + Sync),
+    alloc: Global,
+    line: &mut Line,
+    asked: &Asked,
+    text: &str,
+) {
+    match asked {
+        Asked::LockStep => add_lock_step(rt, alloc, line, text),
+        Asked::Run => add_end(alloc, line, text),
+        Asked::RunByWorkers => add_end_by_workers(rt, alloc, line, text),
+        Asked::Words => add_words(alloc, line, text),
+        Asked::BothRuns => add_both_runs(rt, alloc, line, text),
+        Asked::Ends => add_ends(rt, alloc, line, text),
+        Asked::Image => add_image(rt, alloc, line, text),
+        Asked::Generated => add_generated(alloc, line, text),
+        Asked::Faulty => add_faulty_runs(rt, alloc, line, text),
+        Asked::FaultyRun => add_faulty_run(rt, alloc, line, text),
+    }
+}
+
+/// Adds what is answered to a row.
+fn add_row(
+    rt: &(impl Threads + Wait + Sync),
+    alloc: Global,
+    line: &mut Line,
+    asked: &Asked,
+    row: Row,
+) {
+    match row.text(alloc) {
+        Ok(text) => add_answer(rt, alloc, line, asked, text.as_str()),
+        Err(_) => line.run_out(),
+    }
+}
+
+/// Wants a row's answer.
+fn expect_row(
+    rt: &(impl Eprint + Threads + Wait + Sync),
+    alloc: Global,
+    asked: &Asked,
+    row: Row,
+) -> Result<(), Failed> {
+    let mut line = Line::new(alloc);
+    add_row(rt, alloc, &mut line, asked, row);
+    line.expect_row(rt, alloc, row)
+}
+
+/// Wants the answers of these rows.
+fn expect_each(
+    rt: &(impl Eprint + Threads + Wait + Sync),
+    alloc: Global,
+    asked: &Asked,
+    rows: &[Row],
+) -> Result<(), Failed> {
+    for row in rows {
+        expect_row(rt, alloc, asked, *row)?;
+    }
+    Ok(())
+}
+
+/// Wants each row's answer.
+pub fn expect_rows(
+    rt: &(impl Eprint + Threads + Wait + Sync),
+    alloc: Global,
+    asked: &Asked,
+    rows: &'static str,
+) -> Result<(), Failed> {
+    match &rows_of(alloc, rows) {
+        Ok(rows) => expect_each(rt, alloc, asked, rows),
+        Err(_) => Err(Failed::NoMemory),
     }
 }

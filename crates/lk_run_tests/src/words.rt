@@ -1,10 +1,10 @@
 //! Words, statuses, and runs whose words or input are no good.
 
 use crate::ends::{add_text, words_of};
-use crate::rows::Asked;
+use crate::rows::{Asked, expect_rows};
 use crate::runs::{told, told_by_workers};
 use lk_run::{Status, SureSink, SureSource, run_alone};
-use lk_test_rows::{Failed, Line, expect_rows};
+use lk_test_rows::{Failed, Line};
 use std::alloc::{AllocError, Global};
 use std::sync::Wait;
 use std::thread::Threads;

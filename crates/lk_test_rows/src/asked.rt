@@ -28,10 +28,7 @@ fn expect_row<R: Eprint, A: Asks<R>>(
 ) -> Result<(), Failed> {
     let mut line = Line::new(alloc);
     tell_row(rt, alloc, asked, &mut line, row);
-    match row.wanted(alloc) {
-        Ok(want) => line.expect(rt, row.front, want.as_str()),
-        Err(_) => Err(Failed::NoMemory),
-    }
+    line.expect_row(rt, alloc, row)
 }
 
 /// Wants the answers of these rows.

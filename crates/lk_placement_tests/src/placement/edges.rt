@@ -11,7 +11,7 @@ ghost use Rattle.lk_link.specs.WellFormed.{IsWellFormed};
 
 use crate::placement::OfPlacement;
 use crate::placement::walked::numbers_of;
-use crate::rows::Asked;
+use crate::rows::{Asked, expect_rows};
 use lk_check::check_link;
 use lk_input::{InputError, read_link};
 use lk_link::{
@@ -25,7 +25,7 @@ use lk_place::{
     OutputRecordLayout, Placed, SegmentFileLayout, SegmentLayout, SymbolPositions,
     compute_layout_sections, compute_segment_layout, merge_secondary_parts,
 };
-use lk_test_rows::{Failed, Line, expect_rows};
+use lk_test_rows::{Failed, Line};
 use std::alloc::{AllocError, Global};
 use std::marker::Model;
 

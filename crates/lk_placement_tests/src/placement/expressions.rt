@@ -6,7 +6,7 @@ ghost use Rattle.lk_link.specs.WellFormed.{IsWellFormed};
 ghost use Rattle.lk_place.specs.Shallow.{AreShallow};
 
 use crate::placement::OfPlacement;
-use crate::rows::Asked;
+use crate::rows::{Asked, expect_rows};
 use lk_check::check_link;
 use lk_link::{Alignment, LinkInput, List, PartId, SymbolId};
 use lk_place::laws::expressions_are_shallow;
@@ -15,7 +15,7 @@ use lk_place::{
     evaluate_const, evaluate_early_expression, evaluate_expression, evaluate_regions, first_memory,
     is_plain,
 };
-use lk_test_rows::{Failed, Line, expect_rows};
+use lk_test_rows::{Failed, Line};
 use std::alloc::{AllocError, Global};
 
 /// Expressions of numbers, and what they are worth everywhere.

@@ -8,7 +8,7 @@ ghost use Rattle.std.specs.Prelude.{◌≡◌, ◌+◌, ◌<◌, ◌≤◌, ◌^
 ghost use Rattle.lk_link.specs.WellFormed.{IsWellFormed};
 
 use crate::placement::OfPlacement;
-use crate::rows::Asked;
+use crate::rows::{Asked, expect_rows};
 use lk_check::check_link;
 use lk_input::read_link;
 use lk_link::{Alignment, LinkInput, Plan, PlanSection, SegmentId};
@@ -17,7 +17,7 @@ use lk_place::{
     assign_section_file_range, compute_segment_alignments, compute_segment_layout,
     layout_section_from_part_layouts, merge_secondary_parts,
 };
-use lk_test_rows::{Failed, Line, expect_rows};
+use lk_test_rows::{Failed, Line};
 use std::alloc::{AllocError, Global};
 
 /// Secondaries, joined to their primaries. Sections 0 and 1 stand alone or are primaries, and the others secondary to them.

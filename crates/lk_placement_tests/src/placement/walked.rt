@@ -7,12 +7,12 @@ ghost use Rattle.lk_link.specs.WellFormed.{IsWellFormed};
 
 use crate::placement::OfPlacement;
 use crate::placement::placed::add_records;
-use crate::rows::Asked;
+use crate::rows::{Asked, expect_rows};
 use lk_check::check_link;
 use lk_input::{InputError, read_link};
 use lk_link::{LinkInput, List, PartId, Small64};
 use lk_place::{Placed, SymbolPosition, SymbolPositions, compute_layout_sections};
-use lk_test_rows::{Failed, Line, expect_rows};
+use lk_test_rows::{Failed, Line};
 use std::alloc::{AllocError, Global};
 
 /// Moves of the location, between sections of 8 and 4 bytes.

@@ -1,8 +1,8 @@
 //! What commons bring to parts.
 
-use crate::rows::Asked;
+use crate::rows::{Asked, expect_rows};
 use crate::sizes::OfSizes;
-use lk_test_rows::{Failed, expect_rows};
+use lk_test_rows::Failed;
 
 /// Two files with a section and a common each, rounded up and packed; a common that nothing asks for; commons in sections that
 /// are else empty, one without bytes; an image beside one; one that only an export keeps, and one whose size alone is asked

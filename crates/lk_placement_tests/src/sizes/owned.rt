@@ -3,7 +3,7 @@
 ghost use Rattle.lk_link.specs.WellFormed.{IsWellFormed};
 ghost use Rattle.lk_live.specs.Reach.{AreLive};
 
-use crate::rows::Asked;
+use crate::rows::{Asked, expect_rows};
 use crate::sizes::OfSizes;
 use lk_check::check_link;
 use lk_link::{FileId, LinkInput, PartId, Small64};
@@ -11,7 +11,7 @@ use lk_live::{Live, traverse_alone};
 use lk_sizes::part_owners::plain_owners;
 use lk_sizes::{PartOwners, SizeError, part_sizes};
 use lk_tables::{FileShare, TableTotals, bytes_in_part, mark_prelude, symbol_shares};
-use lk_test_rows::{Failed, Line, expect_rows};
+use lk_test_rows::{Failed, Line};
 use std::alloc::Global;
 
 /// The owners of each part of one small link, and the bytes of all of them: sections by file and index, commons by symbol, and

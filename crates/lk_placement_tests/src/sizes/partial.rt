@@ -3,13 +3,13 @@
 
 ghost use Rattle.lk_link.specs.WellFormed.{IsWellFormed};
 
-use crate::rows::Asked;
+use crate::rows::{Asked, expect_rows};
 use crate::sizes::OfSizes;
 use lk_check::check_link;
 use lk_link::{LinkInput, SymbolId, ValueFlags};
 use lk_live::{Live, traverse_alone};
 use lk_sizes::{PartialLinkPlan, PartialLinkSingletons, SymbolCopyInfo};
-use lk_test_rows::{Failed, Line, expect_rows};
+use lk_test_rows::{Failed, Line};
 use std::alloc::{AllocError, Global};
 
 /// Output that isn't linked again; such output without singletons; two live singletons in one group and one in the next, behind four

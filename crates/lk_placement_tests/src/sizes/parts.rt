@@ -5,7 +5,7 @@ ghost use Rattle.lk_link.specs.Parts.{all_parts};
 ghost use Rattle.lk_link.specs.WellFormed.{IsWellFormed};
 ghost use Rattle.lk_live.specs.Reach.{AreLive};
 
-use crate::rows::Asked;
+use crate::rows::{Asked, expect_rows};
 use crate::sizes::{OfSizes, add_of_sizes};
 use lk_check::check_link;
 use lk_link::{LinkInput, Small64};
@@ -15,7 +15,7 @@ use lk_sizes::{
     HeaderInfo, PartContents, PartOwners, SizeError, image_addresses, part_sizes, part_sizes_with,
     propagate_section_attributes,
 };
-use lk_test_rows::{Failed, Line, NO_FRAME, expect_rows, frame_of, framed};
+use lk_test_rows::{Failed, Line, NO_FRAME, frame_of, framed};
 use std::alloc::{AllocError, Global};
 use std::sync::Wait;
 use std::thread::Threads;

@@ -5,7 +5,7 @@ ghost use Rattle.lk_link.specs.Parts.{all_parts};
 ghost use Rattle.lk_link.specs.WellFormed.{IsWellFormed};
 ghost use Rattle.lk_live.specs.Reach.{AreLive};
 
-use crate::rows::Asked;
+use crate::rows::{Asked, expect_rows};
 use crate::sizes::OfSizes;
 use lk_check::check_link;
 use lk_link::{LinkInput, PartId, Small64, SymbolId};
@@ -17,7 +17,7 @@ use lk_sizes::{
 use lk_tables::{
     FileShare, TableTotals, bytes_in_part, first_totals, mark_prelude, symbol_shares, whole_totals,
 };
-use lk_test_rows::{Failed, Line, expect_rows};
+use lk_test_rows::{Failed, Line};
 use std::alloc::{AllocError, Global};
 
 /// The bytes of the tables first, the names under which symbols are copied, the bytes of each file in the symbol table and its names, those of

@@ -3,10 +3,10 @@
 ghost use Rattle.lk_link.specs.WellFormed.{IsWellFormed};
 
 use crate::paths::OfPaths;
-use crate::rows::Asked;
+use crate::rows::{Asked, expect_rows};
 use lk_explain::{Unit, check_path};
 use lk_link::LinkInput;
-use lk_test_rows::{Failed, Line, expect_rows};
+use lk_test_rows::{Failed, Line};
 
 /// Of a section that refers to a symbol at a second one; of one that goes on from there to a third, with a symbol that doesn't stand
 /// for itself; of the members of a section group, of which the last refers to a section outside. The first fault counts, and of

@@ -3,10 +3,10 @@
 ghost use Rattle.lk_link.specs.WellFormed.{IsWellFormed};
 
 use crate::paths::OfPaths;
-use crate::rows::Asked;
+use crate::rows::{Asked, expect_rows};
 use lk_explain::{ExplainError, Unit, explain};
 use lk_link::{FileId, LinkInput};
-use lk_test_rows::{Failed, Line, expect_rows};
+use lk_test_rows::{Failed, Line};
 use std::alloc::Global;
 
 const SHOWN: &str = r#"

@@ -1,9 +1,9 @@
 //! Which block each object is in, and who owns it.
 
-use crate::rows::Asked;
+use crate::rows::{Asked, expect_rows};
 use crate::thunks::{OfThunks, number};
 use lk_link::FileId;
-use lk_test_rows::{Failed, Line, expect_rows};
+use lk_test_rows::{Failed, Line};
 use lk_thunks::{ThunkBlockId, assign_thunk_blocks};
 use std::alloc::{AllocError, Global};
 

@@ -4,14 +4,14 @@ ghost use Rattle.std.specs.Prelude.{◌+◌, ◌<◌, ◌^◌};
 ghost use Rattle.lk_link.specs.WellFormed.{IsWellFormed};
 ghost use Rattle.lk_thunks.specs.Ranges.{total_primary_bytes};
 
-use crate::rows::Asked;
+use crate::rows::{Asked, expect_rows};
 use crate::thunks::blocks::add_user;
 use crate::thunks::{OfThunks, number};
 use lk_check::check_link;
 use lk_input::{InputError, read_link};
 use lk_link::{FileId, LinkInput};
 use lk_live::{GcError, Live, traverse_alone};
-use lk_test_rows::{Failed, Line, expect_rows};
+use lk_test_rows::{Failed, Line};
 use lk_thunks::{
     Arch, Small64Arch, ThunkBlock, ThunkBlockId, ThunkLayoutBuilder, total_primary_bytes,
 };

@@ -1,8 +1,8 @@
 //! Which branches reach.
 
-use crate::rows::Asked;
+use crate::rows::{Asked, expect_rows};
 use crate::thunks::{OfThunks, number};
-use lk_test_rows::{Failed, Line, expect_rows};
+use lk_test_rows::{Failed, Line};
 use lk_thunks::{BranchSite, OutOfReach, check_reach};
 use std::alloc::{AllocError, Global};
 

@@ -5,7 +5,7 @@ ghost use Rattle.lk_link.specs.SymbolRanges.{IsWithin};
 ghost use Rattle.lk_link.specs.Symbols.{definition_of};
 ghost use Rattle.lk_link.specs.WellFormed.{IsWellFormed};
 
-use crate::rows::Asked;
+use crate::rows::{Asked, expect_rows};
 use crate::traversal::OfTraversal;
 use lk_check::check_link;
 use lk_gc::{
@@ -13,7 +13,7 @@ use lk_gc::{
     LocalWorkQueue, SymbolRequestHandler, can_export_global_def, export_symbols_mode, traverse,
 };
 use lk_link::{FileId, InputSymbol, LinkInput, NoGate, SymbolId};
-use lk_test_rows::{Failed, Line, expect_rows};
+use lk_test_rows::{Failed, Line};
 use std::alloc::Global;
 use std::sync::Wait;
 use std::thread::Threads;

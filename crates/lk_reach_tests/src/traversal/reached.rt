@@ -2,12 +2,12 @@
 
 ghost use Rattle.lk_link.specs.WellFormed.{IsWellFormed};
 
-use crate::rows::Asked;
+use crate::rows::{Asked, expect_rows};
 use crate::traversal::OfTraversal;
 use lk_check::check_link;
 use lk_link::{FileId, FileRef, LinkInput, SymbolId};
 use lk_live::{GcError, Live, Unit, file_roots, primary_references, successors, traverse_alone};
-use lk_test_rows::{Failed, Line, expect_rows};
+use lk_test_rows::{Failed, Line};
 use std::alloc::Global;
 
 /// What the prelude and an object ask for, and what the object's symbols and sections do.

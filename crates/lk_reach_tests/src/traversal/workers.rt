@@ -9,7 +9,7 @@ ghost use Rattle.lk_workers.specs.Asked.{AreListsOf};
 ghost use Rattle.lk_workers.specs.Items.{IsOwn};
 ghost use Rattle.lk_workers.specs.declared.work.WorkItem.TheVariants.{LoadGlobalSymbol};
 
-use crate::rows::Asked;
+use crate::rows::{Asked, expect_rows};
 use crate::traversal::OfTraversal;
 use lk_check::check_link;
 use lk_flags::{FlagPass, Reach};
@@ -17,7 +17,7 @@ use lk_gc::{GcError, traverse};
 use lk_link::marks::is_marked;
 use lk_link::{LinkInput, NoGate, SymbolId};
 use lk_reach::{Unit, Walk};
-use lk_test_rows::{Failed, Line, LockStep, expect_rows};
+use lk_test_rows::{Failed, Line, LockStep};
 use lk_workers::{Closed, LocalWorkQueue, Traversal, WorkItem, WorkerSlot, walk_by_workers};
 use std::alloc::{AllocError, Global};
 use std::marker::Brand;

@@ -1,8 +1,8 @@
 //! Plans that move what they place: locations, regions, thread-local data, bases, load addresses and secondary sections.
 
-use crate::rows::Asked;
+use crate::rows::{Asked, expect_rows};
 use crate::runs::expect_reports;
-use lk_test_rows::{Failed, expect_rows};
+use lk_test_rows::Failed;
 
 /// Descriptions with their reports.
 const REPORTED: &str = r#"# A location behind the section before it.

@@ -1,8 +1,8 @@
 //! Links that are relaxed.
 
-use crate::rows::Asked;
+use crate::rows::{Asked, expect_rows};
 use crate::runs::expect_reports;
-use lk_test_rows::{Failed, expect_rows};
+use lk_test_rows::Failed;
 
 /// Descriptions with their reports.
 const REPORTED: &str =

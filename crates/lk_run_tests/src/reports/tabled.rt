@@ -1,8 +1,8 @@
 //! Layouts with tables: entries of symbols, headers, names and the identity.
 
-use crate::rows::Asked;
+use crate::rows::{Asked, expect_rows};
 use crate::runs::expect_reports;
-use lk_test_rows::{Failed, expect_rows};
+use lk_test_rows::Failed;
 
 /// Descriptions with their reports.
 const TABLED: &str = r#"# A jump and a thread-local offset of one symbol: 16 bytes in each part.

@@ -1,8 +1,8 @@
 //! Runs over links in which something is merged: what is kept, where it stands, the values of symbols there, and refusals.
 
-use crate::rows::Asked;
+use crate::rows::{Asked, expect_rows};
 use crate::runs::expect_reports;
-use lk_test_rows::{Failed, expect_rows};
+use lk_test_rows::Failed;
 
 /// What stands behind the prelude's group in a description of one output section, with its report; and whole descriptions.
 const REPORTED: &str =

@@ -1,8 +1,8 @@
 //! Symbols of the linker's own files and of scripts, and what redirects come to.
 
-use crate::rows::Asked;
+use crate::rows::{Asked, expect_rows};
 use crate::runs::expect_reports;
-use lk_test_rows::{Failed, expect_rows};
+use lk_test_rows::Failed;
 
 /// Descriptions with their reports.
 const REPORTED: &str =
