@@ -9,8 +9,8 @@ use lk_layout::{Layout, LayoutError, Small64Arch};
 use lk_link::ids::OutputSectionId;
 use lk_link::{LinkInput, Small64};
 use lk_place::{OutputRecordLayout, SegmentFileLayout};
-use lk_test_rows::{Failed, Line};
 use std::alloc::{AllocError, Global};
+use std::test::Fail;
 
 /// Where a section is to go, and in which kind of file.
 #[derive(Clone, Copy)]
@@ -36,24 +36,30 @@ fn move_of(words: &str) -> Move {
 }
 
 /// Adds what each record takes in the file.
-fn add_ranges(line: &mut Line, what: &str, records: &[OutputRecordLayout]) {
-    write!(line, ", {what}");
+fn add_ranges(
+    line: &mut String,
+    what: &str,
+    records: &[OutputRecordLayout],
+) -> Result<(), AllocError> {
+    write!(line, ", {what}")?;
     for one in records {
         let (start, size) = (one.file_offset, one.file_size);
-        write!(line, " {start}+{size}");
+        write!(line, " {start}+{size}")?;
     }
+    Ok(())
 }
 
 /// Adds what is told of the file.
-fn add_file(line: &mut Line, layout: &Layout<'_>) {
-    add_ranges(line, "sections", layout.section_layouts());
-    add_ranges(line, "parts", layout.section_part_layouts());
-    add_ranges(line, "joined", layout.merged_section_layouts());
-    line.push_str(", segments");
+fn add_file(line: &mut String, layout: &Layout<'_>) -> Result<(), AllocError> {
+    add_ranges(line, "sections", layout.section_layouts())?;
+    add_ranges(line, "parts", layout.section_part_layouts())?;
+    add_ranges(line, "joined", layout.merged_section_layouts())?;
+    write!(line, ", segments")?;
     for one in layout.segment_layouts() {
         let (start, size) = (one.sizes.file_offset, one.sizes.file_size);
-        write!(line, " {start}+{size}");
+        write!(line, " {start}+{size}")?;
     }
+    Ok(())
 }
 
 /// Moves the section, if it is there.
@@ -67,36 +73,45 @@ fn moved(layout: &mut Layout<'_>, asked: Move) -> Option<u64> {
 }
 
 /// Adds where the section ends, and what is told of the file then.
-fn add_move(alloc: Global, line: &mut Line, layout: &mut Layout<'_>, asked: Move) {
+fn add_move(
+    alloc: Global,
+    line: &mut String,
+    layout: &mut Layout<'_>,
+    asked: Move,
+) -> Result<(), AllocError> {
     match moved(layout, asked) {
-        Some(end) => write!(line, "{end}"),
-        None => line.push_str("none"),
+        Some(end) => write!(line, "{end}")?,
+        None => write!(line, "none")?,
     }
-    match layout.refresh_file_layouts(alloc, asked.kind) {
-        Ok(()) => add_file(line, layout),
-        Err(_) => line.run_out(),
-    }
+    layout.refresh_file_layouts(alloc, asked.kind)?;
+    add_file(line, layout)
 }
 
 /// Adds what is told where a section of what was computed is moved.
 fn add_move_in(
     alloc: Global,
-    line: &mut Line,
+    line: &mut String,
     computed: &mut Result<Layout<'_>, LayoutError>,
     asked: Move,
-) {
+) -> Result<(), AllocError> {
     match computed {
         Ok(layout) => add_move(alloc, line, layout, asked),
-        Err(LayoutError::NoMemory) => line.run_out(),
-        Err(_) => line.push_str("refused"),
+        Err(LayoutError::NoMemory) => Err(AllocError),
+        Err(_) => write!(line, "refused"),
     }
 }
 
 /// Adds what is told where a section of a link is moved.
-pub fn add_moved(alloc: Global, line: &mut Line, link: &LinkInput, words: &str) {
+pub fn add_moved(
+    alloc: Global,
+    line: &mut String,
+    link: &LinkInput,
+    words: &str,
+) -> Result<(), AllocError> {
     let mut computed = compute_alone(alloc, link, &Small64, &Small64Arch);
-    add_move_in(alloc, line, &mut computed, move_of(words));
+    let added = add_move_in(alloc, line, &mut computed, move_of(words));
     drop(computed);
+    added
 }
 
 /// Sections that are moved in the file, by number, start and kind of file: where they end, and what all take there then.
@@ -119,79 +134,91 @@ const MOVED: &str =
 "#;
 
 #[test]
-fn sections_are_moved_in_the_file(rt: HostRuntime) -> Result<(), Failed> {
-    expect_rows(&rt, rt.alloc(), &Asked::Moved, MOVED)
+fn sections_are_moved_in_the_file(rt: HostRuntime) -> Result<(), Fail> {
+    expect_rows(&rt, rt.alloc(), Asked::Moved, MOVED)
 }
 
 /// Adds where the sections of a file stand.
-fn add_resolutions(line: &mut Line, all: &SectionResolutions<'_>) {
+fn add_resolutions(line: &mut String, all: &SectionResolutions<'_>) -> Result<(), AllocError> {
     for index in 0..all.len() {
         match all.get(index).and_then(|one| one.address()) {
-            Some(address) => write!(line, " {address}"),
-            None => line.push_str(" -"),
+            Some(address) => write!(line, " {address}")?,
+            None => write!(line, " -")?,
         }
     }
-}
-
-/// Adds ranges that are deleted.
-fn add_deleted_ranges(line: &mut Line, ranges: &Result<Vec<(u64, u64)>, AllocError>) {
-    match ranges {
-        Ok(ranges) => {
-            for (start, len) in ranges {
-                write!(line, " less {len} at {start}");
-            }
-        }
-        Err(_) => line.run_out(),
-    }
+    Ok(())
 }
 
 /// Adds which ranges are deleted of the section of an object with this index.
-fn add_deleted(alloc: Global, line: &mut Line, object: &ObjectLayout<'_>, index: usize) {
+fn add_deleted(
+    alloc: Global,
+    line: &mut String,
+    object: &ObjectLayout<'_>,
+    index: usize,
+) -> Result<(), AllocError> {
     let Ok(index) = u32::try_from(index) else {
-        return;
+        return Ok(());
     };
     let deleted = object.section_relax_deltas;
     if let Some(deltas) = deleted.and_then(|all| all.get(index)) {
-        add_deleted_ranges(line, &deltas.ranges(alloc));
+        let ranges = deltas.ranges(alloc)?;
+        for (start, len) in &ranges {
+            write!(line, " less {len} at {start}")?;
+        }
     }
+    Ok(())
 }
 
 /// Adds what became of each section of an object, and which ranges of it are deleted.
-fn add_sections(alloc: Global, line: &mut Line, object: &ObjectLayout<'_>) {
-    line.push_str(" of");
+fn add_sections(
+    alloc: Global,
+    line: &mut String,
+    object: &ObjectLayout<'_>,
+) -> Result<(), AllocError> {
+    write!(line, " of")?;
     for index in 0..object.sections.len() {
-        add_slot(line, object, index);
-        add_deleted(alloc, line, object, index);
+        add_slot(line, object, index)?;
+        add_deleted(alloc, line, object, index)?;
     }
+    Ok(())
 }
 
 /// Adds what became of the section of an object with this index.
-fn add_slot(line: &mut Line, object: &ObjectLayout<'_>, index: usize) {
+fn add_slot(line: &mut String, object: &ObjectLayout<'_>, index: usize) -> Result<(), AllocError> {
     let Ok(index) = u32::try_from(index) else {
-        return;
+        return Ok(());
     };
     match object.sections.get(index) {
         Some(slot) => write!(line, " {slot:?}"),
-        None => line.push_str(" none"),
+        None => write!(line, " none"),
     }
 }
 
 /// Adds what is told of an object.
-fn add_object(alloc: Global, line: &mut Line, object: &ObjectLayout<'_>) {
+fn add_object(
+    alloc: Global,
+    line: &mut String,
+    object: &ObjectLayout<'_>,
+) -> Result<(), AllocError> {
     let first = object.symbol_id_range.start;
-    write!(line, " from {first} at");
-    add_resolutions(line, &object.section_resolutions);
-    add_sections(alloc, line, object);
+    write!(line, " from {first} at")?;
+    add_resolutions(line, &object.section_resolutions)?;
+    add_sections(alloc, line, object)?;
     let block = object.thunk_block_id.as_usize();
-    write!(line, " block {block}");
+    write!(line, " block {block}")?;
     if object.owns_thunk_block {
-        line.push_str(" owned");
+        write!(line, " owned")?;
     }
+    Ok(())
 }
 
 /// Adds what is told of a file.
-fn add_file_layout(alloc: Global, line: &mut Line, file: &FileLayout<'_>) {
-    write!(line, " {file:?}");
+fn add_file_layout(
+    alloc: Global,
+    line: &mut String,
+    file: &FileLayout<'_>,
+) -> Result<(), AllocError> {
+    write!(line, " {file:?}")?;
     match file {
         FileLayout::Object(object) => add_object(alloc, line, object),
         FileLayout::Prelude(prelude) => {
@@ -203,7 +230,7 @@ fn add_file_layout(alloc: Global, line: &mut Line, file: &FileLayout<'_>) {
             let start = epilogue.dynsym_start_index;
             write!(line, " {start}")
         }
-        _ => {}
+        _ => Ok(()),
     }
 }
 
@@ -211,44 +238,56 @@ fn add_file_layout(alloc: Global, line: &mut Line, file: &FileLayout<'_>) {
 const TOLD: u32 = 8;
 
 /// Adds what is told of a group.
-fn add_group(alloc: Global, line: &mut Line, group: &GroupLayout<'_, '_>) {
+fn add_group(
+    alloc: Global,
+    line: &mut String,
+    group: &GroupLayout<'_, '_>,
+) -> Result<(), AllocError> {
     let (names, dynamic) = (group.strtab_start_offset, group.dynstr_start_offset);
     let locals = group.symtab_local_start_index;
     let globals = group.symtab_global_start_index;
-    write!(line, "{group} {names} {dynamic} {locals} {globals} [");
+    write!(line, "{group} {names} {dynamic} {locals} {globals} [")?;
     for number in 0..TOLD {
         if let Some(file) = group.files.get(number) {
-            add_file_layout(alloc, line, &file);
+            add_file_layout(alloc, line, &file)?;
         }
     }
-    line.push_str(" ]")
+    write!(line, " ]")
 }
 
 /// Adds what is told of all groups.
-fn add_groups(alloc: Global, line: &mut Line, layout: &Layout<'_>) {
+fn add_groups(alloc: Global, line: &mut String, layout: &Layout<'_>) -> Result<(), AllocError> {
     let groups = layout.group_layouts();
     for number in 0..TOLD {
         if let Some(group) = groups.get(number) {
-            line.add_comma();
-            add_group(alloc, line, &group);
+            if number > 0 {
+                line.push_str(", ")?;
+            }
+            add_group(alloc, line, &group)?;
         }
     }
+    Ok(())
 }
 
 /// Adds what is told of the groups of what was computed.
-fn add_groups_in(alloc: Global, line: &mut Line, computed: &Result<Layout<'_>, LayoutError>) {
+fn add_groups_in(
+    alloc: Global,
+    line: &mut String,
+    computed: &Result<Layout<'_>, LayoutError>,
+) -> Result<(), AllocError> {
     match computed {
         Ok(layout) => add_groups(alloc, line, layout),
-        Err(LayoutError::NoMemory) => line.run_out(),
-        Err(_) => line.push_str("refused"),
+        Err(LayoutError::NoMemory) => Err(AllocError),
+        Err(_) => write!(line, "refused"),
     }
 }
 
 /// Adds what is told of the groups of a link.
-pub fn add_told(alloc: Global, line: &mut Line, link: &LinkInput) {
+pub fn add_told(alloc: Global, line: &mut String, link: &LinkInput) -> Result<(), AllocError> {
     let computed = compute_alone(alloc, link, &Small64, &Small64Arch);
-    add_groups_in(alloc, line, &computed);
+    let added = add_groups_in(alloc, line, &computed);
     drop(computed);
+    added
 }
 
 /// Groups: what each is called, where it begins in the names of symbols and of dynamic symbols and among local symbols and the others, and
@@ -270,6 +309,6 @@ const GROUPS: &str = r#"# Three sections, and no tables.
 "#;
 
 #[test]
-fn groups_are_told_with_their_files(rt: HostRuntime) -> Result<(), Failed> {
-    expect_rows(&rt, rt.alloc(), &Asked::Groups, GROUPS)
+fn groups_are_told_with_their_files(rt: HostRuntime) -> Result<(), Fail> {
+    expect_rows(&rt, rt.alloc(), Asked::Groups, GROUPS)
 }

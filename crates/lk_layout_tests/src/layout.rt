@@ -8,10 +8,11 @@ use lk_compute::compute;
 use lk_layout::{Layout, LayoutError, Small64Arch};
 use lk_link::{Gate, LinkInput, NoGate, Small64};
 use lk_report::report_text_by_workers;
-use lk_test_rows::{Failed, Line};
+use lk_test_rows::add;
 use std::alloc::{AllocError, Global};
 use std::sync::Wait;
 use std::sync::atomic::{AtomicU64, Ordering};
+use std::test::Fail;
 use std::thread::Threads;
 
 /// Two sections in segments of their own; references that can't be met in three groups; and symbols of three groups that are told to the
@@ -83,9 +84,9 @@ fn told_layout<R: Threads + Wait + Sync, G: Gate + Sync>(
 pub fn add_workers(
     rt: &(impl Threads + Wait + Sync),
     alloc: Global,
-    line: &mut Line,
+    line: &mut String,
     link: &LinkInput,
-) {
+) -> Result<(), AllocError> {
     for (word, workers) in [
         ("none", 0),
         ("one", 1),
@@ -93,15 +94,15 @@ pub fn add_workers(
         ("eight", 8),
         ("many", 100),
     ] {
-        line.add_made(word, &told_layout(rt, alloc, link, workers, &NoGate));
+        add(line, word, &told_layout(rt, alloc, link, workers, &NoGate)?)?;
     }
     let shut = Door { is_open: false };
-    line.add_made("alone", &told_layout(rt, alloc, link, 1, &shut))
+    add(line, "alone", &told_layout(rt, alloc, link, 1, &shut)?)
 }
 
 #[test]
-fn every_number_of_workers_lays_out(rt: HostRuntime) -> Result<(), Failed> {
-    expect_rows(&rt, rt.alloc(), &Asked::Workers, TWO_SEGMENTS)
+fn every_number_of_workers_lays_out(rt: HostRuntime) -> Result<(), Fail> {
+    expect_rows(&rt, rt.alloc(), Asked::Workers, TWO_SEGMENTS)
 }
 
 /// Links in groups behind the prelude's, mostly with lists for which many units ask: how many sections are live and how many symbols have
@@ -134,45 +135,28 @@ impl Gate for Counter {
     }
 }
 
-/// The report that none makes behind a gate, and whether two and eight workers make the same.
-fn told_alike(
-    rt: &(impl Threads + Wait + Sync),
-    alloc: Global,
-    link: &LinkInput,
-    gate: &Counter,
-) -> Result<(String, bool), AllocError> {
-    let alone = told_layout(rt, alloc, link, 0, gate)?;
-    let by_two = told_layout(rt, alloc, link, 2, gate)?;
-    let by_eight = told_layout(rt, alloc, link, 8, gate)?;
-    let is_same = by_two.as_str() == alone.as_str() && by_eight.as_str() == alone.as_str();
-    Ok((alone, is_same))
-}
-
-/// Adds how many sections and symbols a report has, and whether others are the same.
-fn add_report(line: &mut Line, report: &str, is_same: bool) {
-    line.add("live", &report.matches("\nlive ").count());
-    line.add("symbols", &report.matches("\nsymbol ").count());
-    line.add("alike", &is_same)
-}
-
 /// Adds how many sections and symbols a report has, and what becomes of it by workers.
 pub fn add_shared(
     rt: &(impl Threads + Wait + Sync),
     alloc: Global,
-    line: &mut Line,
+    line: &mut String,
     link: &LinkInput,
-) {
+) -> Result<(), AllocError> {
     let gate = Counter {
         entered: AtomicU64::new(0),
     };
-    match told_alike(rt, alloc, link, &gate) {
-        Ok((alone, is_same)) => add_report(line, alone.as_str(), is_same),
-        Err(_) => line.run_out(),
-    }
-    line.add("walk", &(gate.entered.load(Ordering::SeqCst) > 0))
+    let alone = told_layout(rt, alloc, link, 0, &gate)?;
+    let by_two = told_layout(rt, alloc, link, 2, &gate)?;
+    let by_eight = told_layout(rt, alloc, link, 8, &gate)?;
+    let alone = alone.as_str();
+    add(line, "live", &alone.matches("\nlive ").count())?;
+    add(line, "symbols", &alone.matches("\nsymbol ").count())?;
+    let is_same = by_two.as_str() == alone && by_eight.as_str() == alone;
+    add(line, "alike", &is_same)?;
+    add(line, "walk", &(gate.entered.load(Ordering::SeqCst) > 0))
 }
 
 #[test]
-fn long_lists_change_no_report(rt: HostRuntime) -> Result<(), Failed> {
-    expect_rows(&rt, rt.alloc(), &Asked::Shared, SHARED)
+fn long_lists_change_no_report(rt: HostRuntime) -> Result<(), Fail> {
+    expect_rows(&rt, rt.alloc(), Asked::Shared, SHARED)
 }

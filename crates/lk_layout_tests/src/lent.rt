@@ -13,81 +13,71 @@ use lk_answers::{Answers, FileLayout, SectionResolution};
 use lk_compute::compute_alone;
 use lk_layout::{Layout, LayoutError, Small64Arch};
 use lk_link::{LinkInput, Small64};
-use lk_test_rows::{Failed, Line};
+use lk_test_rows::add;
 use std::alloc::{AllocError, Global};
+use std::test::Fail;
 
 /// Adds how many thunks there are, and where they begin.
-fn add_thunks(line: &mut Line, layout: &Layout<'_>) {
-    line.add("thunks", &layout.thunk_count());
+fn add_thunks(line: &mut String, layout: &Layout<'_>) -> Result<(), AllocError> {
+    add(line, "thunks", &layout.thunk_count())?;
     let begins = layout.thunk_block_addresses();
-    line.add("blocks", &begins);
+    add(line, "blocks", &begins)?;
     for block in 0..begins.len() {
         let two = (
             layout.thunk_address(block, 0),
             layout.thunk_address(block, 1),
         );
-        line.add("block", &two);
+        add(line, "block", &two)?;
     }
+    Ok(())
 }
 
 /// Adds the sorted sections.
-fn add_sorted(line: &mut Line, layout: &Layout<'_>) {
-    line.push_str(" sorted");
+fn add_sorted(line: &mut String, layout: &Layout<'_>) -> Result<(), AllocError> {
+    line.push_str(" sorted")?;
     for one in layout.script_sorted_sections() {
         let (file, index, part) = (one.file_id, one.section_index, one.part_id.as_u32());
         let (size, alignment) = (one.size, one.alignment);
         write!(
             line,
             " {file} {index} in {part} takes {size} by {alignment}"
-        );
+        )?;
     }
+    Ok(())
 }
 
 /// Adds the singletons of each group.
-fn add_singletons(line: &mut Line, layout: &Layout<'_>) {
+fn add_singletons(line: &mut String, layout: &Layout<'_>) -> Result<(), AllocError> {
     match layout.partial_link() {
-        Some(plan) => line.add("singletons", &plan.singletons.group_sizes()),
+        Some(plan) => add(line, "singletons", &plan.singletons.group_sizes()),
         None => line.push_str(" no singletons"),
     }
 }
 
 /// Adds where merged data begins.
-fn add_merged(line: &mut Line, layout: &Layout<'_>) {
+fn add_merged(line: &mut String, layout: &Layout<'_>) -> Result<(), AllocError> {
     let starts = layout.merged_string_start_addresses();
-    line.push_str(" merged");
+    line.push_str(" merged")?;
     for section in 0..layout.section_layouts().len() {
         let start = starts.image_start(section);
-        write!(line, " {start}");
+        write!(line, " {start}")?;
     }
-}
-
-/// Adds the ranges of a section that are deleted.
-fn add_ranges(
-    line: &mut Line,
-    file: usize,
-    index: u32,
-    ranges: &Result<Vec<(u64, u64)>, AllocError>,
-) {
-    match ranges {
-        Ok(ranges) => {
-            for (start, length) in ranges {
-                write!(line, " {file}/{index} {start}+{length}");
-            }
-        }
-        Err(_) => line.run_out(),
-    }
+    Ok(())
 }
 
 /// Adds what is deleted.
-fn add_deleted(alloc: Global, line: &mut Line, layout: &Layout<'_>) {
-    line.push_str(" deleted");
+fn add_deleted(alloc: Global, line: &mut String, layout: &Layout<'_>) -> Result<(), AllocError> {
+    line.push_str(" deleted")?;
     for (file, deltas) in layout.section_deletions().iter().enumerate() {
         for index in 0..4 {
             if let Some(deltas) = deltas.get(index) {
-                add_ranges(line, file, index, &deltas.ranges(alloc));
+                for (start, length) in &deltas.ranges(alloc)? {
+                    write!(line, " {file}/{index} {start}+{length}")?;
+                }
             }
         }
     }
+    Ok(())
 }
 
 /// What a symbol at a section's start would stand for, with its flags and entries.
@@ -97,60 +87,71 @@ fn whole(section: SectionResolution) -> Option<(u64, u32, Option<u64>, Option<u6
 }
 
 /// Adds where the sections of an object stand.
-fn add_object(line: &mut Line, object: &ObjectLayout<'_>) {
+fn add_object(line: &mut String, object: &ObjectLayout<'_>) -> Result<(), AllocError> {
     let all = &object.section_resolutions;
     for index in 0..all.len() {
         if let Some(one) = all.get(index) {
-            line.add("section", &(one.address(), whole(one)));
+            add(line, "section", &(one.address(), whole(one)))?;
         }
     }
+    Ok(())
 }
 
 /// Adds where the sections of the second group's first file stand.
-fn add_second(line: &mut Line, layout: &Layout<'_>) {
+fn add_second(line: &mut String, layout: &Layout<'_>) -> Result<(), AllocError> {
     if let Some(group) = layout.group_layouts().get(1) {
         if let Some(FileLayout::Object(object)) = group.files.get(0) {
-            add_object(line, &object);
+            add_object(line, &object)?;
         }
     }
+    Ok(())
 }
 
 /// Adds what is told of the linker's own file, and the entry.
-fn add_prelude(line: &mut Line, layout: &Layout<'_>) {
+fn add_prelude(line: &mut String, layout: &Layout<'_>) -> Result<(), AllocError> {
     let prelude = layout.prelude();
     let headers = prelude.header_info.num_output_sections_with_content;
-    line.add("identity", &prelude.identity);
-    line.add("headers", &headers);
+    add(line, "identity", &prelude.identity)?;
+    add(line, "headers", &headers)?;
     let symbol = prelude.entry_symbol_id.map(|symbol| symbol.as_u32());
-    line.add("entry", &(symbol, layout.resolved_entry_symbol_address()))
+    add(
+        line,
+        "entry",
+        &(symbol, layout.resolved_entry_symbol_address()),
+    )
 }
 
 /// Adds all that a layout lends.
-fn add_layout(alloc: Global, line: &mut Line, layout: &Layout<'_>) {
-    add_thunks(line, layout);
-    add_sorted(line, layout);
-    add_singletons(line, layout);
-    add_merged(line, layout);
-    line.add("live", &layout.live_marks());
-    line.add("at", &layout.section_addresses());
-    add_deleted(alloc, line, layout);
-    add_second(line, layout);
+fn add_layout(alloc: Global, line: &mut String, layout: &Layout<'_>) -> Result<(), AllocError> {
+    add_thunks(line, layout)?;
+    add_sorted(line, layout)?;
+    add_singletons(line, layout)?;
+    add_merged(line, layout)?;
+    add(line, "live", &layout.live_marks())?;
+    add(line, "at", &layout.section_addresses())?;
+    add_deleted(alloc, line, layout)?;
+    add_second(line, layout)?;
     add_prelude(line, layout)
 }
 
 /// Adds all that the layout lends that was computed, or why there is none.
-fn add_computed(alloc: Global, line: &mut Line, computed: &Result<Layout<'_>, LayoutError>) {
+fn add_computed(
+    alloc: Global,
+    line: &mut String,
+    computed: &Result<Layout<'_>, LayoutError>,
+) -> Result<(), AllocError> {
     match computed {
         Ok(layout) => add_layout(alloc, line, layout),
-        Err(error) => line.add("refused", error),
+        Err(error) => add(line, "refused", error),
     }
 }
 
 /// Adds all that the layout of a link lends.
-pub fn add_lent(alloc: Global, line: &mut Line, link: &LinkInput) {
+pub fn add_lent(alloc: Global, line: &mut String, link: &LinkInput) -> Result<(), AllocError> {
     let computed = compute_alone(alloc, link, &Small64, &Small64Arch);
-    add_computed(alloc, line, &computed);
+    let added = add_computed(alloc, line, &computed);
     drop(computed);
+    added
 }
 
 /// Lists and answers.
@@ -176,6 +177,6 @@ const LENT: &str = r#"
 "#;
 
 #[test]
-fn lists_are_lent(rt: HostRuntime) -> Result<(), Failed> {
-    expect_rows(&rt, rt.alloc(), &Asked::Lent, LENT)
+fn lists_are_lent(rt: HostRuntime) -> Result<(), Fail> {
+    expect_rows(&rt, rt.alloc(), Asked::Lent, LENT)
 }

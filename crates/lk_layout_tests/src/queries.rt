@@ -12,8 +12,9 @@ use lk_compute::compute_alone;
 use lk_input::read_link;
 use lk_layout::{Layout, LayoutError, Resolution, Small64Arch};
 use lk_link::{LinkInput, OutputSectionId, Small64, SymbolId, SymbolIdRange, ValueFlags};
-use lk_test_rows::{Failed, Line};
+use lk_test_rows::add;
 use std::alloc::{AllocError, Global};
+use std::test::Fail;
 
 /// Starts.
 const STARTS: &str = r#"
@@ -70,12 +71,12 @@ const SYMBOLS: &str = r#"
 "#;
 
 /// Adds what a layout tells of its thread-local segment, so many bytes before it, and of its data.
-fn add_thread_local(line: &mut Line, bytes: u64, layout: &Layout<'_>) {
-    line.add("tls", &layout.tls_start_address());
-    line.add("aligned", &layout.tls_start_address_aligned());
-    line.add("end", &layout.tls_end_address());
-    line.add("before", &layout.tls_start_address_aarch64(bytes));
-    line.add("data", &layout.tlv_data_start_address())
+fn add_thread_local(line: &mut String, bytes: u64, layout: &Layout<'_>) -> Result<(), AllocError> {
+    add(line, "tls", &layout.tls_start_address())?;
+    add(line, "aligned", &layout.tls_start_address_aligned())?;
+    add(line, "end", &layout.tls_end_address())?;
+    add(line, "before", &layout.tls_start_address_aarch64(bytes))?;
+    add(line, "data", &layout.tlv_data_start_address())
 }
 
 /// Where an output section starts.
@@ -84,15 +85,15 @@ fn start_of(layout: &Layout<'_>, section: u32) -> u64 {
 }
 
 /// Adds what a layout tells of its sections.
-fn add_sections(line: &mut Line, layout: &Layout<'_>) {
-    line.add("got", &layout.got_base());
-    line.add("plain", &layout.is_plain());
+fn add_sections(line: &mut String, layout: &Layout<'_>) -> Result<(), AllocError> {
+    add(line, "got", &layout.got_base())?;
+    add(line, "plain", &layout.is_plain())?;
     let starts = (
         start_of(layout, 0),
         start_of(layout, 1),
         start_of(layout, 2),
     );
-    line.add("starts", &starts)
+    add(line, "starts", &starts)
 }
 
 /// The value of a resolution, with its flags.
@@ -102,7 +103,7 @@ fn told(resolution: Option<Resolution>) -> Option<(u64, u32)> {
 }
 
 /// Adds what a layout tells of a symbol.
-fn add_symbol(line: &mut Line, layout: &Layout<'_>, number: u32) {
+fn add_symbol(line: &mut String, layout: &Layout<'_>, number: u32) -> Result<(), AllocError> {
     let symbol = SymbolId::from_u32(number);
     let interposable = layout.symbol_resolution_with_flags(symbol, ValueFlags::INTERPOSABLE);
     let answer = (
@@ -111,99 +112,93 @@ fn add_symbol(line: &mut Line, layout: &Layout<'_>, number: u32) {
         told(layout.merged_symbol_resolution(symbol)),
         told(interposable),
     );
-    line.add("symbol", &answer)
-}
-
-/// The values of a range of symbols, by index.
-fn values_by_index(
-    alloc: Global,
-    layout: &Layout<'_>,
-    range: SymbolIdRange,
-) -> Result<Vec<Option<(u64, u32)>>, AllocError> {
-    let resolutions = layout.resolutions_in_range(range);
-    let mut values = Vec::new(alloc);
-    for place in 0..resolutions.len() {
-        values.push(told(resolutions.get(place)))?;
-    }
-    Ok(values)
-}
-
-/// The values of a range of symbols, one by one.
-fn values_in_turn(
-    alloc: Global,
-    layout: &Layout<'_>,
-    range: SymbolIdRange,
-) -> Result<Vec<Option<(u64, u32)>>, AllocError> {
-    let mut values = Vec::new(alloc);
-    for resolution in layout.resolutions_in_range(range) {
-        values.push(told(resolution))?;
-    }
-    Ok(values)
-}
-
-/// Adds the values of a range by index and one by one, once where these are the same.
-fn add_values(line: &mut Line, indexed: &[Option<(u64, u32)>], walked: &[Option<(u64, u32)>]) {
-    if indexed == walked {
-        line.add("range", &walked)
-    } else {
-        line.add("ranges", &(indexed, walked))
-    }
+    add(line, "symbol", &answer)
 }
 
 /// Adds the resolutions of three symbols, by index and then one by one.
-fn add_range(alloc: Global, line: &mut Line, layout: &Layout<'_>, first: u32) {
+fn add_range(
+    alloc: Global,
+    line: &mut String,
+    layout: &Layout<'_>,
+    first: u32,
+) -> Result<(), AllocError> {
     if first > 1000 {
-        return;
+        return Ok(());
     }
     let range = SymbolIdRange::new(SymbolId::from_u32(first), 3);
-    let indexed = values_by_index(alloc, layout, range);
-    let walked = values_in_turn(alloc, layout, range);
-    match (&indexed, &walked) {
-        (Ok(indexed), Ok(walked)) => add_values(line, indexed, walked),
-        _ => line.run_out(),
+    let resolutions = layout.resolutions_in_range(range);
+    let mut indexed = Vec::new(alloc);
+    for place in 0..resolutions.len() {
+        indexed.push(told(resolutions.get(place)))?;
+    }
+    let mut walked = Vec::new(alloc);
+    for resolution in resolutions {
+        walked.push(told(resolution))?;
+    }
+    if indexed == walked {
+        add(line, "range", &walked)
+    } else {
+        add(line, "ranges", &(indexed, walked))
     }
 }
 
 /// Adds what a layout tells of four symbols and a range of three.
-fn add_symbols(alloc: Global, line: &mut Line, first: u32, layout: &Layout<'_>) {
+fn add_symbols(
+    alloc: Global,
+    line: &mut String,
+    first: u32,
+    layout: &Layout<'_>,
+) -> Result<(), AllocError> {
     for place in 0..4 {
-        add_symbol(line, layout, first.saturating_add(place));
+        add_symbol(line, layout, first.saturating_add(place))?;
     }
     add_range(alloc, line, layout, first)
 }
 
 /// Adds what a layout tells of starts.
-fn add_starts(line: &mut Line, bytes: u64, layout: &Layout<'_>) {
-    add_thread_local(line, bytes, layout);
+fn add_starts(line: &mut String, bytes: u64, layout: &Layout<'_>) -> Result<(), AllocError> {
+    add_thread_local(line, bytes, layout)?;
     add_sections(line, layout)
 }
 
 /// Adds what a layout tells of starts or of symbols, or why there is none.
 fn add_answer(
     alloc: Global,
-    line: &mut Line,
+    line: &mut String,
     asked: Asked,
     number: u32,
     answer: &Result<Layout<'_>, LayoutError>,
-) {
+) -> Result<(), AllocError> {
     match answer {
         Ok(layout) => match asked {
             Asked::Symbols => add_symbols(alloc, line, number, layout),
             _ => add_starts(line, u64::from(number), layout),
         },
-        Err(error) => line.add("refused", error),
+        Err(error) => add(line, "refused", error),
     }
 }
 
 /// Adds what the layout of a link tells of starts or of symbols.
-fn add_answers(alloc: Global, line: &mut Line, asked: Asked, number: u32, link: &LinkInput) {
+fn add_answers(
+    alloc: Global,
+    line: &mut String,
+    asked: Asked,
+    number: u32,
+    link: &LinkInput,
+) -> Result<(), AllocError> {
     let answer = compute_alone(alloc, link, &Small64, &Small64Arch);
-    add_answer(alloc, line, asked, number, &answer);
+    let added = add_answer(alloc, line, asked, number, &answer);
     drop(answer);
+    added
 }
 
 /// Adds what the layout of a description tells, behind which stands a number.
-pub fn add_queries(alloc: Global, line: &mut Line, asked: Asked, text: &str) {
+pub fn add_queries(
+    alloc: Global,
+    line: &mut String,
+    asked: Asked,
+    text: &str,
+) -> Result<(), AllocError> {
     let (description, number) = text.rsplit_once(' ').unwrap_or((text, ""));
     let number = number.parse::<u32>().unwrap_or(0);
     match read_link(alloc, description.as_bytes()) {
@@ -213,13 +208,13 @@ pub fn add_queries(alloc: Global, line: &mut Line, asked: Asked, text: &str) {
 }
 
 #[test]
-fn starts_are_told(rt: HostRuntime) -> Result<(), Failed> {
-    expect_rows(&rt, rt.alloc(), &Asked::Starts, STARTS)
+fn starts_are_told(rt: HostRuntime) -> Result<(), Fail> {
+    expect_rows(&rt, rt.alloc(), Asked::Starts, STARTS)
 }
 
 #[test]
-fn symbols_are_told(rt: HostRuntime) -> Result<(), Failed> {
-    expect_rows(&rt, rt.alloc(), &Asked::Symbols, SYMBOLS)
+fn symbols_are_told(rt: HostRuntime) -> Result<(), Fail> {
+    expect_rows(&rt, rt.alloc(), Asked::Symbols, SYMBOLS)
 }
 
 /// Redirects that are worked out, or why there is no layout; behind a description stands the number of the first symbol that is told.
@@ -242,6 +237,6 @@ const COMPUTED: &str = r#"
 "#;
 
 #[test]
-fn redirects_are_computed(rt: HostRuntime) -> Result<(), Failed> {
-    expect_rows(&rt, rt.alloc(), &Asked::Symbols, COMPUTED)
+fn redirects_are_computed(rt: HostRuntime) -> Result<(), Fail> {
+    expect_rows(&rt, rt.alloc(), Asked::Symbols, COMPUTED)
 }

@@ -1,4 +1,4 @@
-//! What rows ask here.
+//! What rows ask here, and that the answers are theirs.
 
 use crate::files::{add_moved, add_told};
 use crate::layout::{add_shared, add_workers};
@@ -6,10 +6,11 @@ use crate::lent::add_lent;
 use crate::queries::add_queries;
 use crate::writer::add_written;
 use lk_input::read_link;
-use lk_test_rows::{Failed, Line, Row, rows_of};
-use std::alloc::Global;
-use std::io::Eprint;
+use lk_test_rows::{Row, rows_of};
+use std::alloc::{AllocError, Global};
+use std::process::Abort;
 use std::sync::Wait;
+use std::test::Fail;
 use std::thread::Threads;
 
 /// What is asked about a text.
@@ -37,10 +38,10 @@ pub enum Asked {
 fn add_linked(
     rt: &(impl Threads + Wait + Sync),
     alloc: Global,
-    line: &mut Line,
+    line: &mut String,
     asked: Asked,
     text: &str,
-) {
+) -> Result<(), AllocError> {
     match read_link(alloc, text.as_bytes()) {
         Ok(link) => match asked {
             Asked::Shared => add_shared(rt, alloc, line, &link),
@@ -51,7 +52,7 @@ fn add_linked(
 }
 
 /// Adds what is told where a section is moved, by the words in front of the text that stands for a link.
-fn add_worded(alloc: Global, line: &mut Line, text: &str) {
+fn add_worded(alloc: Global, line: &mut String, text: &str) -> Result<(), AllocError> {
     let (words, text) = text.split_once(" / ").unwrap_or(("", text));
     match read_link(alloc, text.as_bytes()) {
         Ok(link) => add_moved(alloc, line, &link, words),
@@ -60,7 +61,7 @@ fn add_worded(alloc: Global, line: &mut Line, text: &str) {
 }
 
 /// Adds what is told of groups where the text stands for a link.
-fn add_all_groups(alloc: Global, line: &mut Line, text: &str) {
+fn add_all_groups(alloc: Global, line: &mut String, text: &str) -> Result<(), AllocError> {
     match read_link(alloc, text.as_bytes()) {
         Ok(link) => add_told(alloc, line, &link),
         Err(error) => write!(line, "no link: {error}"),
@@ -68,7 +69,7 @@ fn add_all_groups(alloc: Global, line: &mut Line, text: &str) {
 }
 
 /// Adds what is lent where the text stands for a link.
-fn add_all_lent(alloc: Global, line: &mut Line, text: &str) {
+fn add_all_lent(alloc: Global, line: &mut String, text: &str) -> Result<(), AllocError> {
     match read_link(alloc, text.as_bytes()) {
         Ok(link) => add_lent(alloc, line, &link),
         Err(error) => write!(line, "no link: {error}"),
@@ -79,13 +80,13 @@ fn add_all_lent(alloc: Global, line: &mut Line, text: &str) {
 fn add_answer(
     rt: &(impl Threads + Wait + Sync),
     alloc: Global,
-    line: &mut Line,
-    asked: &Asked,
+    line: &mut String,
+    asked: Asked,
     text: &str,
-) {
+) -> Result<(), AllocError> {
     match asked {
-        Asked::Workers | Asked::Shared => add_linked(rt, alloc, line, *asked, text),
-        Asked::Starts | Asked::Symbols => add_queries(alloc, line, *asked, text),
+        Asked::Workers | Asked::Shared => add_linked(rt, alloc, line, asked, text),
+        Asked::Starts | Asked::Symbols => add_queries(alloc, line, asked, text),
         Asked::Moved => add_worded(alloc, line, text),
         Asked::Groups => add_all_groups(alloc, line, text),
         Asked::Lent => add_all_lent(alloc, line, text),
@@ -93,54 +94,45 @@ fn add_answer(
     }
 }
 
-/// Adds what is answered to a row.
-fn add_row(
+/// What is answered to a row.
+fn answer(
     rt: &(impl Threads + Wait + Sync),
     alloc: Global,
-    line: &mut Line,
-    asked: &Asked,
+    asked: Asked,
     row: Row,
-) {
-    match row.text(alloc) {
-        Ok(text) => add_answer(rt, alloc, line, asked, text.as_str()),
-        Err(_) => line.run_out(),
-    }
+) -> Result<String, AllocError> {
+    let text = row.text(alloc)?;
+    let mut line = String::new(alloc);
+    add_answer(rt, alloc, &mut line, asked, text.as_str())?;
+    Ok(line)
+}
+
+/// Wants this text of a row with this front.
+fn expect_answer(rt: &impl Abort, front: &str, found: &str, want: &str) {
+    assert_eq!(rt; found, want, "for {front}");
 }
 
 /// Wants a row's answer.
 fn expect_row(
-    rt: &(impl Eprint + Threads + Wait + Sync),
+    rt: &(impl Abort + Threads + Wait + Sync),
     alloc: Global,
-    asked: &Asked,
+    asked: Asked,
     row: Row,
-) -> Result<(), Failed> {
-    let mut line = Line::new(alloc);
-    add_row(rt, alloc, &mut line, asked, row);
-    line.expect_row(rt, alloc, row)
-}
-
-/// Wants the answers of these rows.
-fn expect_each(
-    rt: &(impl Eprint + Threads + Wait + Sync),
-    alloc: Global,
-    asked: &Asked,
-    rows: &[Row],
-) -> Result<(), Failed> {
-    for row in rows {
-        expect_row(rt, alloc, asked, *row)?;
-    }
+) -> Result<(), Fail> {
+    let line = answer(rt, alloc, asked, row)?;
+    expect_answer(rt, row.front, line.as_str(), row.want);
     Ok(())
 }
 
 /// Wants each row's answer.
 pub fn expect_rows(
-    rt: &(impl Eprint + Threads + Wait + Sync),
+    rt: &(impl Abort + Threads + Wait + Sync),
     alloc: Global,
-    asked: &Asked,
+    asked: Asked,
     rows: &'static str,
-) -> Result<(), Failed> {
-    match &rows_of(alloc, rows) {
-        Ok(rows) => expect_each(rt, alloc, asked, rows),
-        Err(_) => Err(Failed::NoMemory),
+) -> Result<(), Fail> {
+    for row in rows_of(alloc, rows)? {
+        expect_row(rt, alloc, asked, row)?;
     }
+    Ok(())
 }

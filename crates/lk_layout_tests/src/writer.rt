@@ -13,8 +13,9 @@ use lk_input::read_link;
 use lk_layout::{Layout, LayoutError, Resolution, Small64Arch};
 use lk_link::{LinkInput, SectionSlot, Small64, SymbolId};
 use lk_place::OutputRecordLayout;
-use lk_test_rows::{Failed, Line};
-use std::alloc::Global;
+use lk_test_rows::add;
+use std::alloc::{AllocError, Global};
+use std::test::Fail;
 
 /// A symbol with this flag has a word of the GOT for its value.
 const VALUE_WORD: u32 = 128;
@@ -33,27 +34,33 @@ fn file_length(sections: &[OutputRecordLayout]) -> u64 {
 }
 
 /// Adds where something stands in memory and in the file.
-fn add_record(line: &mut Line, one: &OutputRecordLayout) {
+fn add_record(line: &mut String, one: &OutputRecordLayout) -> Result<(), AllocError> {
     let (address, bytes) = (one.mem_offset, one.mem_size);
     let (start, size) = (one.file_offset, one.file_size);
     write!(line, " {address}+{bytes} in {start}+{size}")
 }
 
 /// Adds where the output sections stand, each with its index among the emitted ones.
-fn add_output_sections(line: &mut Line, layout: &Layout<'_>) {
+fn add_output_sections(line: &mut String, layout: &Layout<'_>) -> Result<(), AllocError> {
     let indexes = layout.output_section_indexes();
     for (number, one) in layout.section_layouts().iter().enumerate() {
-        line.add("section", &indexes.get(number).copied().unwrap_or(None));
-        add_record(line, one);
+        add(
+            line,
+            "section",
+            &indexes.get(number).copied().unwrap_or(None),
+        )?;
+        add_record(line, one)?;
     }
+    Ok(())
 }
 
 /// Adds where the active segments stand.
-fn add_segments(line: &mut Line, layout: &Layout<'_>) {
+fn add_segments(line: &mut String, layout: &Layout<'_>) -> Result<(), AllocError> {
     for one in layout.segment_layouts() {
-        line.push_str(" segment");
-        add_record(line, &one.sizes);
+        line.push_str(" segment")?;
+        add_record(line, &one.sizes)?;
     }
+    Ok(())
 }
 
 /// Where bytes of a part at this address stand in the file: as far behind its start as in memory. None where the part has none there.
@@ -91,31 +98,42 @@ fn live_place(
 }
 
 /// Adds where the live sections of an object stand.
-fn add_object(line: &mut Line, layout: &Layout<'_>, object: &ObjectLayout<'_>) {
+fn add_object(
+    line: &mut String,
+    layout: &Layout<'_>,
+    object: &ObjectLayout<'_>,
+) -> Result<(), AllocError> {
     for index in 0..TOLD {
         if let Some(place) = live_place(layout, object, index) {
-            line.add("live", &place);
+            add(line, "live", &place)?;
         }
     }
+    Ok(())
 }
 
 /// Adds where the live sections of the files of a group stand.
-fn add_group(line: &mut Line, layout: &Layout<'_>, group: &GroupLayout<'_, '_>) {
+fn add_group(
+    line: &mut String,
+    layout: &Layout<'_>,
+    group: &GroupLayout<'_, '_>,
+) -> Result<(), AllocError> {
     for number in 0..TOLD {
         if let Some(FileLayout::Object(object)) = group.files.get(number) {
-            add_object(line, layout, &object);
+            add_object(line, layout, &object)?;
         }
     }
+    Ok(())
 }
 
 /// Adds where the live sections of all files stand.
-fn add_live(line: &mut Line, layout: &Layout<'_>) {
+fn add_live(line: &mut String, layout: &Layout<'_>) -> Result<(), AllocError> {
     let groups = layout.group_layouts();
     for number in 0..TOLD {
         if let Some(group) = groups.get(number) {
-            add_group(line, layout, &group);
+            add_group(line, layout, &group)?;
         }
     }
+    Ok(())
 }
 
 /// Where the word for a symbol's value stands in the GOT.
@@ -138,45 +156,50 @@ fn offset_word(of: &Resolution) -> Option<u64> {
 }
 
 /// Adds what relocations compute with.
-fn add_symbols(line: &mut Line, layout: &Layout<'_>) {
+fn add_symbols(line: &mut String, layout: &Layout<'_>) -> Result<(), AllocError> {
     for number in 0..TOLD {
         if let Some(of) = layout.merged_symbol_resolution(SymbolId::from_u32(number)) {
             let words = (value_word(&of), offset_word(&of));
-            write!(line, " symbol {number}");
-            line.add("is", &(of.raw_value, words, of.plt));
+            write!(line, " symbol {number}")?;
+            add(line, "is", &(of.raw_value, words, of.plt))?;
         }
     }
+    Ok(())
 }
 
 /// Adds all that is asked.
-fn add_layout(line: &mut Line, layout: &Layout<'_>) {
-    line.add("length", &file_length(layout.section_layouts()));
-    add_output_sections(line, layout);
-    add_segments(line, layout);
-    add_live(line, layout);
-    add_symbols(line, layout);
-    line.add("thread", &layout.tls_end_address());
-    line.add("entry", &layout.resolved_entry_symbol_address())
+fn add_layout(line: &mut String, layout: &Layout<'_>) -> Result<(), AllocError> {
+    add(line, "length", &file_length(layout.section_layouts()))?;
+    add_output_sections(line, layout)?;
+    add_segments(line, layout)?;
+    add_live(line, layout)?;
+    add_symbols(line, layout)?;
+    add(line, "thread", &layout.tls_end_address())?;
+    add(line, "entry", &layout.resolved_entry_symbol_address())
 }
 
 /// Adds what is answered of what was computed, or why there is nothing.
-fn add_computed(line: &mut Line, computed: &Result<Layout<'_>, LayoutError>) {
+fn add_computed(
+    line: &mut String,
+    computed: &Result<Layout<'_>, LayoutError>,
+) -> Result<(), AllocError> {
     match computed {
         Ok(layout) => add_layout(line, layout),
-        Err(LayoutError::NoMemory) => line.run_out(),
+        Err(LayoutError::NoMemory) => Err(AllocError),
         Err(error) => write!(line, "refused: {error:?}"),
     }
 }
 
 /// Adds what is answered of a link.
-fn add_link(alloc: Global, line: &mut Line, link: &LinkInput) {
+fn add_link(alloc: Global, line: &mut String, link: &LinkInput) -> Result<(), AllocError> {
     let computed = compute_alone(alloc, link, &Small64, &Small64Arch);
-    add_computed(line, &computed);
+    let added = add_computed(line, &computed);
     drop(computed);
+    added
 }
 
 /// Adds what a writer is answered where the text stands for a link.
-pub fn add_written(alloc: Global, line: &mut Line, text: &str) {
+pub fn add_written(alloc: Global, line: &mut String, text: &str) -> Result<(), AllocError> {
     match read_link(alloc, text.as_bytes()) {
         Ok(link) => add_link(alloc, line, &link),
         Err(error) => write!(line, "no link: {error}"),
@@ -195,6 +218,6 @@ const ASKED: &str = r#"
 "#;
 
 #[test]
-fn writers_are_answered(rt: HostRuntime) -> Result<(), Failed> {
-    expect_rows(&rt, rt.alloc(), &Asked::Written, ASKED)
+fn writers_are_answered(rt: HostRuntime) -> Result<(), Fail> {
+    expect_rows(&rt, rt.alloc(), Asked::Written, ASKED)
 }

@@ -6,20 +6,21 @@ ghost use Rattle.lk_link.specs.WellFormed.{IsWellFormed};
 ghost use Rattle.lk_merge.specs.Addresses.{AreStartsOf};
 ghost use Rattle.lk_merge.specs.LinkInputs.{link_inputs};
 
-use crate::rows::{Asked, expect_rows};
+use crate::rows::{Asked, expect_rows, expect_text};
 use lk_check::check_link;
 use lk_input::read_link;
 use lk_link::{FileId, Gate, LinkInput, List, NoGate, OutputSectionId, Relocation, SymbolId};
 use lk_merge::{
     BucketOffset, LinearInputOffset, MergeError, MergeString, MergeStringsSectionBucket,
-    MergedStringStartAddresses, MergedStringsSection, SectionGroup, StringMergeInputSections,
-    StringMergeInputs, find_string, get_merged_string_output_address, merge_strings,
-    merge_strings_alone, split_sections, total_input_size,
+    MergedStringStartAddresses, MergedStringsSection, StringMergeInputSections, StringMergeInputs,
+    find_string, get_merged_string_output_address, merge_strings, merge_strings_alone,
+    split_sections, total_input_size,
 };
-use lk_test_rows::{Failed, Line};
-use std::alloc::Global;
+use lk_test_rows::add;
+use std::alloc::{AllocError, Global};
 use std::sync::Wait;
 use std::sync::atomic::{AtomicU64, Ordering};
+use std::test::Fail;
 use std::thread::{Threads, yield_now};
 
 /// What is told of merging.
@@ -214,120 +215,122 @@ const SIZED_ADDRESSES: &str = "
 ";
 
 /// Adds a bucket that holds something: its number, its length and its pieces.
-fn add_bucket(line: &mut Line, number: usize, bucket: &MergeStringsSectionBucket<'_>) {
+fn add_bucket(
+    line: &mut String,
+    number: usize,
+    bucket: &MergeStringsSectionBucket<'_>,
+) -> Result<(), AllocError> {
     if bucket.len() == 0 {
-        return;
+        return Ok(());
     }
-    line.add("bucket", &(number, bucket.len()));
+    add(line, "bucket", &(number, bucket.len()))?;
     for piece in bucket.strings() {
-        line.add("piece", &piece.as_bytes());
+        add(line, "piece", &piece.as_bytes())?;
     }
+    Ok(())
 }
 
-/// The buckets of an output section, its distinct pieces, all pieces, their bytes and the image's bytes.
-fn sizes_of(section: &MergedStringsSection<'_>) -> (usize, usize, usize, usize, u64) {
+/// Adds what an output section keeps.
+fn add_kept(line: &mut String, section: &MergedStringsSection<'_>) -> Result<(), AllocError> {
     let (kept, len) = (section.string_count(), section.len());
     let (count, size) = (
         section.input_string_count(),
         section.input_string_byte_size(),
     );
-    (section.buckets().len(), kept, count, size, len)
-}
-
-/// Adds what an output section keeps.
-fn add_kept(line: &mut Line, section: &MergedStringsSection<'_>) {
-    line.add("section", &sizes_of(section));
-    for (number, bucket) in section.buckets().iter().enumerate() {
-        add_bucket(line, number, bucket);
+    let buckets = section.buckets();
+    add(line, "section", &(buckets.len(), kept, count, size, len))?;
+    for (number, bucket) in buckets.iter().enumerate() {
+        add_bucket(line, number, bucket)?;
     }
+    Ok(())
 }
 
 /// Adds a place: the bucket and the offset there, or a dash.
-fn add_place(line: &mut Line, place: Option<BucketOffset>) {
+fn add_place(line: &mut String, place: Option<BucketOffset>) -> Result<(), AllocError> {
     match place {
         Some(place) => write!(line, " {}:{}", place.bucket(), place.offset_in_bucket()),
         None => line.push_str(" -"),
     }
 }
 
-/// The first eight offsets behind a start, and the last of all.
-const OFFSETS: [u64; 9] = [0, 1, 2, 3, 4, 5, 6, 7, u64::MAX];
-
-/// Offsets up to the twelfth start of a block and behind it, at the ends of blocks, and further on.
-const BLOCK_OFFSETS: [u64; 12] = [0, 8, 9, 10, 11, 12, 254, 255, 256, 299, 300, 312];
-
 /// Adds where the first eight offsets behind a start are, and the last of all.
-fn add_offsets(line: &mut Line, section: &MergedStringsSection<'_>, start: LinearInputOffset) {
-    line.add("start", &start.as_u64());
-    for offset in OFFSETS {
-        add_place(line, find_string(section, start, offset));
+fn add_offsets(
+    line: &mut String,
+    section: &MergedStringsSection<'_>,
+    start: LinearInputOffset,
+) -> Result<(), AllocError> {
+    add(line, "start", &start.as_u64())?;
+    for offset in [0, 1, 2, 3, 4, 5, 6, 7, u64::MAX] {
+        add_place(line, find_string(section, start, offset))?;
     }
+    Ok(())
 }
 
 /// Adds where offsets of each input are.
 fn add_places(
-    line: &mut Line,
+    line: &mut String,
     inputs: &StringMergeInputSections<'_>,
     section: &MergedStringsSection<'_>,
-) {
+) -> Result<(), AllocError> {
     for input in inputs.as_slice() {
-        add_offsets(line, section, input.start_input_offset);
+        add_offsets(line, section, input.start_input_offset)?;
     }
+    Ok(())
 }
 
 /// Adds how many starts stand past the twelfth of their blocks, and where offsets of each input are.
 fn add_blocks(
-    line: &mut Line,
+    line: &mut String,
     inputs: &StringMergeInputSections<'_>,
     section: &MergedStringsSection<'_>,
-) {
+) -> Result<(), AllocError> {
     let (kept, count) = (section.string_count(), section.input_string_count());
     let past = section.string_offsets().overflow_len();
-    line.add("starts", &(kept, count, section.len(), past));
+    add(line, "starts", &(kept, count, section.len(), past))?;
     for input in inputs.as_slice() {
-        line.push_str(" at");
-        for offset in BLOCK_OFFSETS {
-            add_place(line, find_string(section, input.start_input_offset, offset));
+        line.push_str(" at")?;
+        for offset in [0, 8, 9, 10, 11, 12, 254, 255, 256, 299, 300, 312] {
+            add_place(line, find_string(section, input.start_input_offset, offset))?;
         }
     }
+    Ok(())
 }
 
 /// Adds where each input of an output section starts.
-fn add_starts(line: &mut Line, inputs: &StringMergeInputSections<'_>) {
+fn add_starts(line: &mut String, inputs: &StringMergeInputSections<'_>) -> Result<(), AllocError> {
     for input in inputs.as_slice() {
-        line.add("start", &input.start_input_offset.as_u64());
+        add(line, "start", &input.start_input_offset.as_u64())?;
     }
-}
-
-/// Adds where groups begin and end.
-fn add_cuts(line: &mut Line, groups: &[SectionGroup]) {
-    for group in groups {
-        line.add("group", &(group.start.as_u64(), group.end.as_u64()));
-    }
+    Ok(())
 }
 
 /// Adds the bytes of all inputs of an output section, their starts, and the groups of about so many into which they are cut.
-fn add_groups(alloc: Global, line: &mut Line, inputs: &StringMergeInputSections<'_>, size: u64)
+fn add_groups(
+    alloc: Global,
+    line: &mut String,
+    inputs: &StringMergeInputSections<'_>,
+    size: u64,
+) -> Result<(), AllocError>
     requires positive { 0 < size }
     requires blocks { size % 256 ≡ 0 }
 {
-    line.add("total", &total_input_size(inputs));
-    add_starts(line, inputs);
-    match split_sections(alloc, inputs, size) {
-        Ok(groups) => add_cuts(line, groups.as_slice()),
-        Err(_) => line.run_out(),
+    add(line, "total", &total_input_size(inputs))?;
+    add_starts(line, inputs)?;
+    for group in split_sections(alloc, inputs, size)? {
+        add(line, "group", &(group.start.as_u64(), group.end.as_u64()))?;
     }
+    Ok(())
 }
 
 /// Adds what is told of an output section by itself.
 fn add_output(
     alloc: Global,
-    line: &mut Line,
+    line: &mut String,
     told: Merging,
     inputs: &StringMergeInputSections<'_>,
     size: u64,
     section: &MergedStringsSection<'_>,
-)
+) -> Result<(), AllocError>
     requires positive { 0 < size }
     requires blocks { size % 256 ≡ 0 }
 {
@@ -342,27 +345,28 @@ fn add_output(
 /// Adds what is told of each output section by itself.
 fn add_outputs(
     alloc: Global,
-    line: &mut Line,
+    line: &mut String,
     told: Merging,
     inputs: &StringMergeInputs<'_>,
     merged: &[MergedStringsSection<'_>],
-) {
+) -> Result<(), AllocError> {
     let size = inputs.group_size();
     for (number, section) in merged.iter().enumerate() {
         if let Some(output) = inputs.outputs().get(number) {
-            add_output(alloc, line, told, output, size, section);
+            add_output(alloc, line, told, output, size, section)?;
         }
     }
+    Ok(())
 }
 
 /// Adds the address that a relocation has of its symbol, as it is, and where unnamed symbols are 0.
 fn add_address(
-    line: &mut Line,
+    line: &mut String,
     link: &LinkInput,
     relocation: &Relocation,
     merged: &[MergedStringsSection<'_>],
     starts: &MergedStringStartAddresses,
-)
+) -> Result<(), AllocError>
     requires good { IsWellFormed link.now }
     requires merged { merged.now ≡ (link_inputs link.now).outputs }
     requires starts { AreStartsOf merged.now starts.now }
@@ -371,48 +375,47 @@ fn add_address(
     let addend = relocation.addend;
     let own = get_merged_string_output_address(link, symbol, addend, merged, starts, false);
     let zero = get_merged_string_output_address(link, symbol, addend, merged, starts, true);
-    line.add("address", &(own, zero))
+    add(line, "address", &(own, zero))
 }
 
 /// Adds the addresses that relocations have of the symbols of an only object.
 fn add_addresses(
-    line: &mut Line,
+    line: &mut String,
     link: &LinkInput,
     merged: &[MergedStringsSection<'_>],
     starts: &MergedStringStartAddresses,
-)
+) -> Result<(), AllocError>
     requires good { IsWellFormed link.now }
     requires merged { merged.now ≡ (link_inputs link.now).outputs }
     requires starts { AreStartsOf merged.now starts.now }
 {
     let Some(file) = link.groups.file(FileId { group: 1, file: 0 }) else {
-        return;
+        return Ok(());
     };
     for section in file.sections.as_slice() {
         for relocation in section.relocs.as_slice() {
-            add_address(line, link, relocation, merged, starts);
+            add_address(line, link, relocation, merged, starts)?;
         }
     }
+    Ok(())
 }
 
 /// Adds the addresses that relocations have of symbols, where the only output section's image starts at 4096.
 fn add_started(
     alloc: Global,
-    line: &mut Line,
+    line: &mut String,
     link: &LinkInput,
     merged: &[MergedStringsSection<'_>],
-)
+) -> Result<(), AllocError>
     requires good { IsWellFormed link.now }
     requires merged { merged.now ≡ (link_inputs link.now).outputs }
 {
     let [section] = merged else {
-        return;
+        return Ok(());
     };
     let start = (u64::MAX - section.len()).min(4096);
-    match MergedStringStartAddresses::compute(alloc, merged, &[start]) {
-        Ok(starts) => add_addresses(line, link, merged, &starts),
-        Err(_) => line.run_out(),
-    }
+    let starts = MergedStringStartAddresses::compute(alloc, merged, &[start])?;
+    add_addresses(line, link, merged, &starts)
 }
 
 /// What a row shows of what is merged: what is kept, and where offsets are.
@@ -421,121 +424,41 @@ const SHOWN: [Merging; 2] = [Merging::Kept, Merging::Places];
 /// What workers have to tell alike: the same, and how many starts stand past the twelfth of their blocks.
 const ALIKE: [Merging; 3] = [Merging::Kept, Merging::Places, Merging::Starts];
 
-/// Adds what is told of what is merged; or why nothing is.
-fn add_told(
+/// What is told of what is merged; or why nothing is.
+fn told_merged(
     alloc: Global,
-    line: &mut Line,
     inputs: &StringMergeInputs<'_>,
     merged: &Result<List<MergedStringsSection<'_>>, MergeError>,
     asked: &[Merging],
-) {
+) -> Result<String, AllocError> {
+    let mut text = String::new(alloc);
     match merged {
         Ok(merged) => {
             for told in asked {
-                add_outputs(alloc, line, *told, inputs, merged.as_slice());
+                add_outputs(alloc, &mut text, *told, inputs, merged.as_slice())?;
             }
         }
-        Err(MergeError::NoMemory) => line.run_out(),
-        Err(error) => line.add("refused", error),
+        Err(MergeError::NoMemory) => return Err(AllocError),
+        Err(error) => add(&mut text, "refused", error)?,
     }
-}
-
-/// Whether buckets hold the same, of which there are as many.
-fn hold_alike<'data>(
-    buckets: &[MergeStringsSectionBucket<'data>],
-    others: &[MergeStringsSectionBucket<'data>],
-) -> bool {
-    for (number, bucket) in buckets.iter().enumerate() {
-        if let Some(other) = others.get(number) {
-            if bucket.len() != other.len() || bucket.strings() != other.strings() {
-                return false;
-            }
-        }
-    }
-    true
-}
-
-/// Whether these offsets behind a start are in the same places.
-fn stand_alike(
-    section: &MergedStringsSection<'_>,
-    other: &MergedStringsSection<'_>,
-    start: LinearInputOffset,
-    offsets: &[u64],
-) -> bool {
-    for offset in offsets {
-        if find_string(section, start, *offset) != find_string(other, start, *offset) {
-            return false;
-        }
-    }
-    true
-}
-
-/// Whether two output sections keep the same, have as many starts past the twelfth of their blocks, and offsets of each input in the
-/// same places.
-fn is_alike<'data>(
-    inputs: &StringMergeInputSections<'data>,
-    section: &MergedStringsSection<'data>,
-    other: &MergedStringsSection<'data>,
-) -> bool {
-    let past = section.string_offsets().overflow_len();
-    if sizes_of(section) != sizes_of(other) || past != other.string_offsets().overflow_len() {
-        return false;
-    }
-    for input in inputs.as_slice() {
-        let start = input.start_input_offset;
-        if !stand_alike(section, other, start, &OFFSETS)
-            || !stand_alike(section, other, start, &BLOCK_OFFSETS)
-        {
-            return false;
-        }
-    }
-    hold_alike(section.buckets(), other.buckets())
-}
-
-/// Whether all output sections are alike.
-fn all_alike<'data>(
-    inputs: &StringMergeInputs<'data>,
-    merged: &[MergedStringsSection<'data>],
-    alone: &[MergedStringsSection<'data>],
-) -> bool {
-    for (number, output) in inputs.outputs().iter().enumerate() {
-        if let (Some(section), Some(other)) = (merged.get(number), alone.get(number)) {
-            if !is_alike(output, section, other) {
-                return false;
-            }
-        }
-    }
-    merged.len() == alone.len()
-}
-
-/// Whether the same is told of what is merged, or why nothing is.
-fn are_told_alike<'data>(
-    inputs: &StringMergeInputs<'data>,
-    merged: &Result<List<MergedStringsSection<'data>>, MergeError>,
-    alone: &Result<List<MergedStringsSection<'data>>, MergeError>,
-) -> bool {
-    match (merged, alone) {
-        (Ok(merged), Ok(alone)) => all_alike(inputs, merged.as_slice(), alone.as_slice()),
-        (Err(error), Err(other)) => error == other,
-        _ => false,
-    }
+    Ok(text)
 }
 
 /// Adds whether so many workers tell the same, or what they tell.
-fn add_by<'data, R: Threads + Wait + Sync>(
-    rt: &R,
+fn add_by(
+    rt: &(impl Threads + Wait + Sync),
     alloc: Global,
-    line: &mut Line,
-    inputs: &StringMergeInputs<'data>,
+    line: &mut String,
+    inputs: &StringMergeInputs<'_>,
     workers: u32,
-    alone: &Result<List<MergedStringsSection<'data>>, MergeError>,
-) {
+    alone: &str,
+) -> Result<(), AllocError> {
     let merged = merge_strings(rt, alloc, inputs, workers, &NoGate);
-    if are_told_alike(inputs, &merged, alone) {
+    let text = told_merged(alloc, inputs, &merged, &ALIKE)?;
+    if text.as_str() == alone {
         write!(line, " {workers} alike")
     } else {
-        write!(line, " {workers} tell");
-        add_told(alloc, line, inputs, &merged, &ALIKE)
+        write!(line, " {workers} tell {text}")
     }
 }
 
@@ -590,126 +513,86 @@ impl Gate for InStep {
     }
 }
 
-/// Adds what two workers keep, how often each of two groups comes to the gate, and how often they meet there.
-fn add_in_step(
+/// How often each of two groups comes to the gate, and how often they meet there, and what two workers keep.
+fn told_in_step(
     rt: &(impl Threads + Wait + Sync),
     alloc: Global,
-    line: &mut Line,
-    inputs: &StringMergeInputs<'_>,
-) {
-    let gate = InStep::new();
-    let merged = merge_strings(rt, alloc, inputs, 2, &gate);
-    add_told(alloc, line, inputs, &merged, &SHOWN);
-    for count in [&gate.first, &gate.second, &gate.met] {
-        line.add("came", &count.load(Ordering::SeqCst));
-    }
-}
-
-/// Adds the same of a link that is well formed.
-fn add_link_in_step(
-    rt: &(impl Threads + Wait + Sync),
-    alloc: Global,
-    line: &mut Line,
     link: &LinkInput,
-) {
+) -> Result<String, AllocError> {
     if check_link(link).is_err() {
-        return;
+        return Ok(String::new(alloc));
     }
-    match StringMergeInputs::new(alloc, link) {
-        Ok(inputs) => add_in_step(rt, alloc, line, &inputs),
-        Err(_) => line.run_out(),
+    let inputs = StringMergeInputs::new(alloc, link)?;
+    let gate = InStep::new();
+    let merged = merge_strings(rt, alloc, &inputs, 2, &gate);
+    let mut text = told_merged(alloc, &inputs, &merged, &SHOWN)?;
+    for count in [&gate.first, &gate.second, &gate.met] {
+        add(&mut text, "came", &count.load(Ordering::SeqCst))?;
     }
+    Ok(text)
 }
 
 /// Adds what is kept on the caller alone, and what workers tell.
 fn add_by_all(
     rt: &(impl Threads + Wait + Sync),
     alloc: Global,
-    line: &mut Line,
+    line: &mut String,
     inputs: &StringMergeInputs<'_>,
-) {
-    let alone = merge_strings_alone(alloc, inputs);
-    add_told(alloc, line, inputs, &alone, &SHOWN);
+) -> Result<(), AllocError> {
+    let merged = merge_strings_alone(alloc, inputs);
+    line.push_str(told_merged(alloc, inputs, &merged, &SHOWN)?.as_str())?;
+    let alone = told_merged(alloc, inputs, &merged, &ALIKE)?;
     for workers in [0, 2, 8] {
-        add_by(rt, alloc, line, inputs, workers, &alone);
+        add_by(rt, alloc, line, inputs, workers, alone.as_str())?;
     }
-}
-
-/// Adds the addresses that relocations have of symbols where two workers merge, if nothing is refused.
-fn add_started_by_workers(
-    rt: &(impl Threads + Wait + Sync),
-    alloc: Global,
-    line: &mut Line,
-    link: &LinkInput,
-    inputs: &StringMergeInputs<'_>,
-)
-    requires good { IsWellFormed link.now }
-    requires inputs { inputs.now ≡ link_inputs link.now }
-{
-    match merge_strings(rt, alloc, inputs, 2, &NoGate) {
-        Ok(merged) => add_started(alloc, line, link, merged.as_slice()),
-        Err(MergeError::NoMemory) => line.run_out(),
-        Err(_) => {}
-    }
+    Ok(())
 }
 
 /// Adds what workers keep of a link that is well formed, what is kept on the caller alone, and the addresses of symbols where two workers merge.
 pub fn add_merged_by_workers(
     rt: &(impl Threads + Wait + Sync),
     alloc: Global,
-    line: &mut Line,
+    line: &mut String,
     link: &LinkInput,
-) {
+) -> Result<(), AllocError> {
     if check_link(link).is_err() {
-        return;
+        return Ok(());
     }
-    match StringMergeInputs::new(alloc, link) {
-        Ok(inputs) => {
-            add_by_all(rt, alloc, line, &inputs);
-            add_started_by_workers(rt, alloc, line, link, &inputs)
-        }
-        Err(_) => line.run_out(),
-    }
-}
-
-/// Adds what is told of inputs of a link that are merged on the caller alone; or why they aren't.
-fn add_merged(
-    alloc: Global,
-    line: &mut Line,
-    told: Merging,
-    link: &LinkInput,
-    inputs: &StringMergeInputs<'_>,
-)
-    requires good { IsWellFormed link.now }
-    requires inputs { inputs.now ≡ link_inputs link.now }
-{
-    match (merge_strings_alone(alloc, inputs), told) {
-        (Ok(merged), Merging::Addresses) => add_started(alloc, line, link, merged.as_slice()),
-        (Ok(merged), _) => add_outputs(alloc, line, told, inputs, merged.as_slice()),
-        (Err(MergeError::NoMemory), _) => line.run_out(),
-        (Err(error), _) => line.add("refused", &error),
+    let inputs = StringMergeInputs::new(alloc, link)?;
+    add_by_all(rt, alloc, line, &inputs)?;
+    match merge_strings(rt, alloc, &inputs, 2, &NoGate) {
+        Ok(merged) => add_started(alloc, line, link, merged.as_slice()),
+        Err(_) => Ok(()),
     }
 }
 
 /// Adds what is told of merging, of a link that is well formed; or why it isn't merged.
-pub fn add_merging(alloc: Global, line: &mut Line, told: Merging, link: &LinkInput) {
+pub fn add_merging(
+    alloc: Global,
+    line: &mut String,
+    told: Merging,
+    link: &LinkInput,
+) -> Result<(), AllocError> {
     if check_link(link).is_err() {
-        return;
+        return Ok(());
     }
-    match StringMergeInputs::new(alloc, link) {
-        Ok(inputs) => add_merged(alloc, line, told, link, &inputs),
-        Err(_) => line.run_out(),
+    let inputs = StringMergeInputs::new(alloc, link)?;
+    match (merge_strings_alone(alloc, &inputs), told) {
+        (Ok(merged), Merging::Addresses) => add_started(alloc, line, link, merged.as_slice()),
+        (Ok(merged), _) => add_outputs(alloc, line, told, &inputs, merged.as_slice()),
+        (Err(MergeError::NoMemory), _) => Err(AllocError),
+        (Err(error), _) => add(line, "refused", &error),
     }
 }
 
 #[test]
-fn merged_sections_hold_distinct_pieces(rt: HostRuntime) -> Result<(), Failed> {
-    expect_rows(&rt, rt.alloc(), &Asked::Of(Merging::Kept), KEPT)
+fn merged_sections_hold_distinct_pieces(rt: HostRuntime) -> Result<(), Fail> {
+    expect_rows(&rt, rt.alloc(), Asked::Of(Merging::Kept), KEPT)
 }
 
 #[test]
-fn every_number_of_workers_merges(rt: HostRuntime) -> Result<(), Failed> {
-    expect_rows(&rt, rt.alloc(), &Asked::ByWorkers, BY_WORKERS)
+fn every_number_of_workers_merges(rt: HostRuntime) -> Result<(), Fail> {
+    expect_rows(&rt, rt.alloc(), Asked::ByWorkers, BY_WORKERS)
 }
 
 /// Two constants, each in a group of its own.
@@ -717,142 +600,150 @@ const TWO_GROUPS: &str =
     r#"{"options":{"merge_group":1},"plan":{"page":16,"sections":[{"attrs":1,"parts":[[1,false]]}],"events":[["sec",0]]},"groups":[[{"kind":"prelude"}],[{"kind":"object","sections":[{"slot":"merge","data":"01020304"},{"slot":"merge","data":"6162"}]}]]}"#;
 
 #[test]
-fn two_workers_fill_groups_in_step(rt: HostRuntime) -> Result<(), Failed> {
-    let mut line = Line::new(rt.alloc());
-    match read_link(rt.alloc(), TWO_GROUPS.as_bytes()) {
-        Ok(link) => add_link_in_step(&rt, rt.alloc(), &mut line, &link),
-        Err(error) => write!(line, "no link: {error}"),
-    }
-    line.expect(
-        &rt,
-        "two groups",
-        "section (16, 2, 2, 6, 6) bucket (10, 2) piece [97, 98] bucket (13, 4) piece [1, 2, 3, 4] start 0 13:0 13:1 13:2 13:3 - - - - - start 256 10:0 10:1 - - - - - - - came 16 came 16 came 32",
-    )
+fn two_workers_fill_groups_in_step(rt: HostRuntime) -> Result<(), Fail> {
+    let alloc = rt.alloc();
+    let text = match read_link(alloc, TWO_GROUPS.as_bytes()) {
+        Ok(link) => told_in_step(&rt, alloc, &link)?,
+        Err(error) => format!(in alloc; "no link: {error}")?,
+    };
+    let want =
+        "section (16, 2, 2, 6, 6) bucket (10, 2) piece [97, 98] bucket (13, 4) piece [1, 2, 3, 4] start 0 13:0 13:1 13:2 13:3 - - - - - start 256 10:0 10:1 - - - - - - - came 16 came 16 came 32";
+    expect_text(&rt, text.as_str(), want);
+    Ok(())
 }
 
 #[test]
-fn merging_goes_by_data(rt: HostRuntime) -> Result<(), Failed> {
-    expect_rows(&rt, rt.alloc(), &Asked::OfSized(Merging::Kept), SIZED_KEPT)
+fn merging_goes_by_data(rt: HostRuntime) -> Result<(), Fail> {
+    expect_rows(&rt, rt.alloc(), Asked::OfSized(Merging::Kept), SIZED_KEPT)
 }
 
 #[test]
-fn addresses_go_by_data(rt: HostRuntime) -> Result<(), Failed> {
+fn addresses_go_by_data(rt: HostRuntime) -> Result<(), Fail> {
     expect_rows(
         &rt,
         rt.alloc(),
-        &Asked::OfSized(Merging::Addresses),
+        Asked::OfSized(Merging::Addresses),
         SIZED_ADDRESSES,
     )
 }
 
 #[test]
-fn offsets_are_found_in_buckets(rt: HostRuntime) -> Result<(), Failed> {
-    expect_rows(&rt, rt.alloc(), &Asked::Of(Merging::Places), PLACES)
+fn offsets_are_found_in_buckets(rt: HostRuntime) -> Result<(), Fail> {
+    expect_rows(&rt, rt.alloc(), Asked::Of(Merging::Places), PLACES)
 }
 
 #[test]
-fn blocks_keep_twelve_starts(rt: HostRuntime) -> Result<(), Failed> {
-    expect_rows(&rt, rt.alloc(), &Asked::Of(Merging::Starts), STARTS)
+fn blocks_keep_twelve_starts(rt: HostRuntime) -> Result<(), Fail> {
+    expect_rows(&rt, rt.alloc(), Asked::Of(Merging::Starts), STARTS)
 }
 
 #[test]
-fn inputs_are_cut_into_groups(rt: HostRuntime) -> Result<(), Failed> {
-    expect_rows(&rt, rt.alloc(), &Asked::Of(Merging::Groups), GROUPS)
+fn inputs_are_cut_into_groups(rt: HostRuntime) -> Result<(), Fail> {
+    expect_rows(&rt, rt.alloc(), Asked::Of(Merging::Groups), GROUPS)
 }
 
 #[test]
-fn symbols_of_merged_sections_have_addresses(rt: HostRuntime) -> Result<(), Failed> {
-    expect_rows(&rt, rt.alloc(), &Asked::Of(Merging::Addresses), ADDRESSES)
+fn symbols_of_merged_sections_have_addresses(rt: HostRuntime) -> Result<(), Fail> {
+    expect_rows(&rt, rt.alloc(), Asked::Of(Merging::Addresses), ADDRESSES)
 }
 
 /// Adds what a bucket answers to a piece with bytes, and its length then.
 fn add_added<'data>(
-    line: &mut Line,
+    line: &mut String,
     bucket: &mut MergeStringsSectionBucket<'data>,
     piece: &'data [u8],
-) {
+) -> Result<(), AllocError> {
     if piece.is_empty() {
-        return;
+        return Ok(());
     }
     let mut source = piece;
     let answer = bucket.add_string(MergeString::take_hashed(&mut source));
-    line.add("added", &(answer, bucket.len()))
+    add(line, "added", &(answer, bucket.len()))
 }
 
 /// Adds what a bucket of a limit answers to two strings, and to the first once more.
-fn add_limited(alloc: Global, line: &mut Line, limit: u64)
+fn add_limited(alloc: Global, line: &mut String, limit: u64) -> Result<(), AllocError>
     requires { limit ≤ 2 ^ 28 }
 {
     let section = OutputSectionId::from_u32(7);
     let mut bucket = MergeStringsSectionBucket::new(alloc, section, 4, limit);
     for piece in [b"a\0", b"q\0", b"a\0"] {
-        add_added(line, &mut bucket, piece);
+        add_added(line, &mut bucket, piece)?;
     }
+    Ok(())
 }
 
 /// Adds what numbers make of a bucket and an offset there, and sums and differences of input offsets.
-fn add_made(line: &mut Line) {
-    line.add("place", &BucketOffset::new(5, 3));
-    line.add("place", &BucketOffset::new(268435455, 15));
-    line.add(
+fn add_made(line: &mut String) -> Result<(), AllocError> {
+    add(line, "place", &BucketOffset::new(5, 3))?;
+    add(line, "place", &BucketOffset::new(268435455, 15))?;
+    add(
+        line,
         "place",
         &(BucketOffset::new(268435456, 0), BucketOffset::default()),
-    );
+    )?;
     let start = LinearInputOffset::from_u64(256);
-    line.add(
+    add(
+        line,
         "offset",
         &(start + 44, start + 44 - start, LinearInputOffset::default()),
     )
 }
 
 /// Adds the string that is taken from some data, if there is one, and what is left.
-fn add_taken(line: &mut Line, data: &[u8]) {
+fn add_taken(line: &mut String, data: &[u8]) -> Result<(), AllocError> {
     let mut source = data;
     let taken = MergeString::take_string_hashed(&mut source);
-    line.add("taken", &(taken.map(|string| string.as_bytes()), source))
+    add(
+        line,
+        "taken",
+        &(taken.map(|string| string.as_bytes()), source),
+    )
 }
 
 /// Adds some bytes as the piece that they are shows them.
-fn add_text(line: &mut Line, data: &[u8]) {
+fn add_text(line: &mut String, data: &[u8]) -> Result<(), AllocError> {
     let mut source = data;
     let piece = MergeString::take_hashed(&mut source);
     write!(line, " text {piece}")
 }
 
 #[test]
-fn buckets_pieces_and_offsets_are_made(rt: HostRuntime) -> Result<(), Failed> {
-    let mut line = Line::new(rt.alloc());
-    add_limited(rt.alloc(), &mut line, 4);
-    add_limited(rt.alloc(), &mut line, 3);
-    add_made(&mut line);
-    line.expect(
+fn buckets_pieces_and_offsets_are_made(rt: HostRuntime) -> Result<(), Fail> {
+    let mut line = String::new(rt.alloc());
+    add_limited(rt.alloc(), &mut line, 4)?;
+    add_limited(rt.alloc(), &mut line, 3)?;
+    add_made(&mut line)?;
+    expect_text(
         &rt,
-        "all",
+        line.as_str(),
         "added (Ok(BucketOffset { number: 1073741824 }), 2) added (Ok(BucketOffset { number: 1073741826 }), 4) added (Ok(BucketOffset { number: 1073741824 }), 4) \
         added (Ok(BucketOffset { number: 1073741824 }), 2) added (Err(TooLarge { section: OutputSectionId { number: 7 }, bucket: 4, offset: 2, len: 2 }), 2) added (Ok(BucketOffset { number: 1073741824 }), 2) \
         place Some(BucketOffset { number: 805306373 }) place Some(BucketOffset { number: 4294967295 }) place (None, BucketOffset { number: 0 }) \
         offset (LinearInputOffset { number: 300 }, 44, LinearInputOffset { number: 0 })",
-    )
+    );
+    Ok(())
 }
 
 /// One U+FFFD stands for each longest part of a character that isn't whole, as in the Unicode Standard.
 #[test]
-fn strings_are_taken_and_shown(rt: HostRuntime) -> Result<(), Failed> {
-    let mut line = Line::new(rt.alloc());
+fn strings_are_taken_and_shown(rt: HostRuntime) -> Result<(), Fail> {
+    let mut line = String::new(rt.alloc());
     for data in [b"ab\0c".as_slice(), b"c", b"", b"\0\0"] {
-        add_taken(&mut line, data);
+        add_taken(&mut line, data)?;
     }
     for data in [
         b"a\0".as_slice(),
         b"a\xf0\x9f\x92b\xff\xed\xa0\x80\xc3",
         b"\xe2\x82\xac\xe2\x82\0",
     ] {
-        add_text(&mut line, data);
+        add_text(&mut line, data)?;
     }
-    line.expect(
+    expect_text(
         &rt,
-        "all",
+        line.as_str(),
         "taken (Some([97, 98, 0]), [99]) taken (None, [99]) taken (None, []) taken (Some([0]), [0]) \
         text a\0 text a\u{FFFD}b\u{FFFD}\u{FFFD}\u{FFFD}\u{FFFD}\u{FFFD} text \u{20AC}\u{FFFD}\0",
-    )
+    );
+    Ok(())
 }

@@ -1,13 +1,14 @@
-//! What rows ask here.
+//! What rows ask here, and that the answers are theirs.
 
 use crate::made::sized_link;
 use crate::merging::{Merging, add_merged_by_workers, add_merging};
 use lk_input::{InputError, read_link};
 use lk_link::LinkInput;
-use lk_test_rows::{Failed, Line, Row, rows_of};
-use std::alloc::Global;
-use std::io::Eprint;
+use lk_test_rows::{Row, rows_of};
+use std::alloc::{AllocError, Global};
+use std::process::Abort;
 use std::sync::Wait;
+use std::test::Fail;
 use std::thread::Threads;
 
 /// What is asked about a text.
@@ -33,10 +34,10 @@ fn link_of(alloc: Global, asked: Asked, text: &str) -> Result<LinkInput, InputEr
 fn add_of(
     rt: &(impl Threads + Wait + Sync),
     alloc: Global,
-    line: &mut Line,
+    line: &mut String,
     asked: Asked,
     link: &LinkInput,
-) {
+) -> Result<(), AllocError> {
     match asked {
         Asked::Of(told) | Asked::OfSized(told) => add_merging(alloc, line, told, link),
         Asked::ByWorkers => add_merged_by_workers(rt, alloc, line, link),
@@ -47,76 +48,61 @@ fn add_of(
 fn add_found(
     rt: &(impl Threads + Wait + Sync),
     alloc: Global,
-    line: &mut Line,
+    line: &mut String,
     asked: Asked,
     link: &Result<LinkInput, InputError>,
-) {
+) -> Result<(), AllocError> {
     match link {
         Ok(link) => add_of(rt, alloc, line, asked, link),
         Err(error) => write!(line, "no link: {error}"),
     }
 }
 
-/// Adds what is answered.
-fn add_answer(
+/// What is answered to a row.
+fn answer(
     rt: &(impl Threads + Wait + Sync),
     alloc: Global,
-    line: &mut Line,
-    asked: &Asked,
-    text: &str,
-) {
-    let link = link_of(alloc, *asked, text);
-    add_found(rt, alloc, line, *asked, &link)
+    asked: Asked,
+    row: Row,
+) -> Result<String, AllocError> {
+    let text = row.text(alloc)?;
+    let link = link_of(alloc, asked, text.as_str());
+    let mut line = String::new(alloc);
+    add_found(rt, alloc, &mut line, asked, &link)?;
+    Ok(line)
 }
 
-/// Adds what is answered to a row.
-fn add_row(
-    rt: &(impl Threads + Wait + Sync),
-    alloc: Global,
-    line: &mut Line,
-    asked: &Asked,
-    row: Row,
-) {
-    match row.text(alloc) {
-        Ok(text) => add_answer(rt, alloc, line, asked, text.as_str()),
-        Err(_) => line.run_out(),
-    }
+/// Wants this text of a row with this front.
+fn expect_answer(rt: &impl Abort, front: &str, found: &str, want: &str) {
+    assert_eq!(rt; found, want, "for {front}");
 }
 
 /// Wants a row's answer.
 fn expect_row(
-    rt: &(impl Eprint + Threads + Wait + Sync),
+    rt: &(impl Abort + Threads + Wait + Sync),
     alloc: Global,
-    asked: &Asked,
+    asked: Asked,
     row: Row,
-) -> Result<(), Failed> {
-    let mut line = Line::new(alloc);
-    add_row(rt, alloc, &mut line, asked, row);
-    line.expect_row(rt, alloc, row)
-}
-
-/// Wants the answers of these rows.
-fn expect_each(
-    rt: &(impl Eprint + Threads + Wait + Sync),
-    alloc: Global,
-    asked: &Asked,
-    rows: &[Row],
-) -> Result<(), Failed> {
-    for row in rows {
-        expect_row(rt, alloc, asked, *row)?;
-    }
+) -> Result<(), Fail> {
+    let line = answer(rt, alloc, asked, row)?;
+    expect_answer(rt, row.front, line.as_str(), row.want);
     Ok(())
 }
 
 /// Wants each row's answer.
 pub fn expect_rows(
-    rt: &(impl Eprint + Threads + Wait + Sync),
+    rt: &(impl Abort + Threads + Wait + Sync),
     alloc: Global,
-    asked: &Asked,
+    asked: Asked,
     rows: &'static str,
-) -> Result<(), Failed> {
-    match &rows_of(alloc, rows) {
-        Ok(rows) => expect_each(rt, alloc, asked, rows),
-        Err(_) => Err(Failed::NoMemory),
+) -> Result<(), Fail> {
+    for row in rows_of(alloc, rows)? {
+        expect_row(rt, alloc, asked, row)?;
     }
+    Ok(())
+}
+
+/// Wants this text.
+pub fn expect_text(rt: &impl Abort, found: &str, want: &str) {
+    assert_eq!(rt; found, want);
 }

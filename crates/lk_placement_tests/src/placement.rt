@@ -6,8 +6,7 @@ use crate::placement::placed::{Spanned, add_placed};
 use crate::placement::walked::add_walk;
 use lk_input::{InputError, read_link};
 use lk_link::LinkInput;
-use lk_test_rows::Line;
-use std::alloc::Global;
+use std::alloc::{AllocError, Global};
 
 mod edges;
 mod expressions;
@@ -34,10 +33,10 @@ pub enum OfPlacement {
 /// Adds what is answered of a link that there is.
 fn add_found(
     alloc: Global,
-    line: &mut Line,
+    line: &mut String,
     asked: OfPlacement,
     link: &Result<LinkInput, InputError>,
-) {
+) -> Result<(), AllocError> {
     match (asked, link) {
         (_, Err(error)) => write!(line, "no link: {error}"),
         (OfPlacement::Values, Ok(link)) => add_values(alloc, line, link),
@@ -47,13 +46,23 @@ fn add_found(
 }
 
 /// Adds what is answered where the text is a description.
-fn add_linked(alloc: Global, line: &mut Line, asked: OfPlacement, text: &str) {
+fn add_linked(
+    alloc: Global,
+    line: &mut String,
+    asked: OfPlacement,
+    text: &str,
+) -> Result<(), AllocError> {
     let link = read_link(alloc, text.as_bytes());
     add_found(alloc, line, asked, &link)
 }
 
 /// Adds what is answered.
-pub fn add_of_placement(alloc: Global, line: &mut Line, asked: OfPlacement, text: &str) {
+pub fn add_of_placement(
+    alloc: Global,
+    line: &mut String,
+    asked: OfPlacement,
+    text: &str,
+) -> Result<(), AllocError> {
     match asked {
         OfPlacement::Placed(asked) => add_placed(alloc, line, asked, text),
         OfPlacement::Walked => add_walk(alloc, line, text),

@@ -13,7 +13,7 @@ ghost use Rattle.lk_sizes.specs.Contents.{size_refusal};
 ghost use Rattle.lk_sizes.specs.Sizing.{AreFilled};
 ghost use Rattle.lk_relax.specs.Relaxed.{ArePlacedFirst, own_filling, relaxing};
 
-use crate::rows::{Asked, expect_rows};
+use crate::rows::{Asked, expect_rows, expect_text};
 use lk_check::check_link;
 use lk_deltas::{
     RelaxDeltaMap, SectionRelaxDeltas, opt_input_to_output, split_ordered_symbol_ranges,
@@ -28,8 +28,9 @@ use lk_relax::{
     relaxation_scan_pass,
 };
 use lk_sizes::{PartOwners, SizeError, plain_owners};
-use lk_test_rows::{Failed, Line};
+use lk_test_rows::add;
 use std::alloc::{AllocError, Global};
+use std::test::Fail;
 
 /// What passes delete, and where all is placed then.
 const RELAXED: &str = r#"
@@ -134,7 +135,7 @@ struct Unshrunk<'a> {
 }
 
 /// Adds a place in a part.
-fn add_place(line: &mut Line, place: Option<(PartId, u64)>) {
+fn add_place(line: &mut String, place: Option<(PartId, u64)>) -> Result<(), AllocError> {
     match place {
         Some((part, offset)) => write!(line, " {part}:{offset}", part = part.as_u32()),
         None => line.push_str(" -"),
@@ -142,11 +143,12 @@ fn add_place(line: &mut Line, place: Option<(PartId, u64)>) {
 }
 
 /// Adds the places of input sections.
-fn add_sections(line: &mut Line, sections: &[Option<(PartId, u64)>]) {
-    line.push_str("sections");
+fn add_sections(line: &mut String, sections: &[Option<(PartId, u64)>]) -> Result<(), AllocError> {
+    line.push_str("sections")?;
     for place in sections {
-        add_place(line, *place);
+        add_place(line, *place)?;
     }
+    Ok(())
 }
 
 /// The place of a symbol.
@@ -156,64 +158,66 @@ fn symbol_place(symbols: &SymbolPositions, symbol: SymbolId) -> Option<(PartId, 
 }
 
 /// Adds the places of so many symbols.
-fn add_symbols(line: &mut Line, symbols: &SymbolPositions, count: u32) {
-    line.push_str(" symbols");
+fn add_symbols(line: &mut String, symbols: &SymbolPositions, count: u32) -> Result<(), AllocError> {
+    line.push_str(" symbols")?;
     for number in 0..count {
-        add_place(line, symbol_place(symbols, SymbolId::from_u32(number)));
+        add_place(line, symbol_place(symbols, SymbolId::from_u32(number)))?;
     }
+    Ok(())
 }
 
 /// Adds ranges.
-fn add_ranges(alloc: Global, line: &mut Line, deltas: &SectionRelaxDeltas) {
-    match &deltas.ranges(alloc) {
-        Ok(ranges) => {
-            for range in ranges {
-                write!(line, " {start}+{length}", start = range.0, length = range.1);
-            }
-        }
-        Err(_) => line.run_out(),
+fn add_ranges(
+    alloc: Global,
+    line: &mut String,
+    deltas: &SectionRelaxDeltas,
+) -> Result<(), AllocError> {
+    for range in &deltas.ranges(alloc)? {
+        write!(line, " {start}+{length}", start = range.0, length = range.1)?;
     }
+    Ok(())
 }
 
 /// Adds what a pass found in a section of a file with this number, unless it is nothing.
 fn add_one_found(
     alloc: Global,
-    line: &mut Line,
+    line: &mut String,
     file: usize,
     one: &(FileId, u32, SectionRelaxDeltas, Option<u64>),
-) {
+) -> Result<(), AllocError> {
     if one.2.is_empty() && one.3.is_none() {
-        return;
+        return Ok(());
     }
-    write!(line, " {file}/{index}", index = one.1);
-    add_ranges(alloc, line, &one.2);
-    if let Some(bytes) = one.3 {
-        write!(line, " short {bytes}");
+    write!(line, " {file}/{index}", index = one.1)?;
+    add_ranges(alloc, line, &one.2)?;
+    match one.3 {
+        Some(bytes) => write!(line, " short {bytes}"),
+        None => Ok(()),
     }
 }
 
 /// Adds what a pass finds in a section of a file with this number, if the section is there and can be looked at.
 fn add_scanned(
     alloc: Global,
-    line: &mut Line,
+    line: &mut String,
     all: Unshrunk<'_>,
     number: usize,
     file: FileId,
     index: u32,
-)
+) -> Result<(), AllocError>
     requires { IsWellFormed all.link.now }
 {
     lk_deltas::laws::nothing_is_of();
     let Some(found_in) = all.link.groups.file(file) else {
-        return;
+        return Ok(());
     };
     let Some(section) = found_in.sections.get(index as usize) else {
-        return;
+        return Ok(());
     };
     if !section.slot.is_regular() {
-        return;
+        return Ok(());
     }
-    match &relaxation_scan_pass(
+    for one in &relaxation_scan_pass(
         alloc,
         all.link,
         all.live,
@@ -222,109 +226,105 @@ fn add_scanned(
         all.symbols,
         all.parts,
         &[],
-    ) {
-        Ok(found) => {
-            for one in found {
-                add_one_found(alloc, line, number, one);
-            }
-        }
-        Err(_) => line.run_out(),
+    )? {
+        add_one_found(alloc, line, number, one)?;
     }
+    Ok(())
 }
 
 /// Adds what a pass finds.
-fn add_found(alloc: Global, line: &mut Line, all: Unshrunk<'_>)
+fn add_found(alloc: Global, line: &mut String, all: Unshrunk<'_>) -> Result<(), AllocError>
     requires { IsWellFormed all.link.now }
 {
-    line.push_str(" found");
+    line.push_str(" found")?;
     let groups = &all.link.groups;
     let mut number = 0usize;
     if groups.len() <= 65535 && groups.file_count() <= 16777216 {
         for file in groups.files() {
             for index in 0..SECTIONS {
-                add_scanned(alloc, line, all, number, file.id, index);
+                add_scanned(alloc, line, all, number, file.id, index)?;
             }
             number = number.saturating_add(1);
         }
     }
-}
-
-/// Adds these places of sections and symbols, and what a pass finds by them.
-fn add_places(alloc: Global, line: &mut Line, all: Unshrunk<'_>)
-    requires { IsWellFormed all.link.now }
-{
-    add_sections(line, all.sections);
-    add_symbols(
-        line,
-        all.symbols,
-        all.link.groups.symbol_count().min(64) as u32,
-    );
-    add_found(alloc, line, all)
+    Ok(())
 }
 
 /// Adds where all stands while nothing is deleted, and what a pass finds.
 fn add_first(
     alloc: Global,
-    line: &mut Line,
+    line: &mut String,
     link: &LinkInput,
     live: &Live,
     owners: &PartOwners,
     parts: &[OutputRecordLayout],
-)
+) -> Result<(), AllocError>
     requires good { IsWellFormed link.now }
     requires live { AreLive link.now live.now }
     requires filled { (tables : TableSizes) × AreFilled (own_filling link.now tables live.now [] []) owners.now }
 {
     lk_relax::laws::nothing_deleted_is_nothing_lost();
-    match compute_input_section_positions(alloc, link, live, owners, &[]) {
-        Ok((sections, symbols)) => {
-            let all = Unshrunk {
-                link,
-                live,
-                sections: &sections,
-                symbols: &symbols,
-                parts,
-            };
-            add_places(alloc, line, all)
-        }
-        Err(_) => line.run_out(),
-    }
+    let (sections, symbols) = compute_input_section_positions(alloc, link, live, owners, &[])?;
+    add_sections(line, &sections)?;
+    add_symbols(line, &symbols, link.groups.symbol_count().min(64) as u32)?;
+    let all = Unshrunk {
+        link,
+        live,
+        sections: &sections,
+        symbols: &symbols,
+        parts,
+    };
+    add_found(alloc, line, all)
 }
 
 /// Adds what is deleted of a section of a file with this number, if anything is.
-fn add_deleted_of(alloc: Global, line: &mut Line, file: usize, map: &RelaxDeltaMap, index: u32) {
-    if let Some(deltas) = map.get(index) {
-        write!(line, " {file}/{index}");
-        add_ranges(alloc, line, deltas);
+fn add_deleted_of(
+    alloc: Global,
+    line: &mut String,
+    file: usize,
+    map: &RelaxDeltaMap,
+    index: u32,
+) -> Result<(), AllocError> {
+    match map.get(index) {
+        Some(deltas) => {
+            write!(line, " {file}/{index}")?;
+            add_ranges(alloc, line, deltas)
+        }
+        None => Ok(()),
     }
 }
 
 /// Adds what is deleted.
-fn add_deleted(alloc: Global, line: &mut Line, deltas: &[RelaxDeltaMap]) {
-    line.push_str(" deleted");
+fn add_deleted(
+    alloc: Global,
+    line: &mut String,
+    deltas: &[RelaxDeltaMap],
+) -> Result<(), AllocError> {
+    line.push_str(" deleted")?;
     for (file, map) in deltas.iter().enumerate() {
         for index in 0..SECTIONS {
-            add_deleted_of(alloc, line, file, map, index);
+            add_deleted_of(alloc, line, file, map, index)?;
         }
     }
+    Ok(())
 }
 
 /// Adds how relaxation ends.
-fn add_end(alloc: Global, line: &mut Line, relaxed: &Relaxed) {
-    line.add("sizes", &relaxed.sizes);
-    add_deleted(alloc, line, &relaxed.deltas);
+fn add_end(alloc: Global, line: &mut String, relaxed: &Relaxed) -> Result<(), AllocError> {
+    add(line, "sizes", &relaxed.sizes)?;
+    add_deleted(alloc, line, &relaxed.deltas)?;
     add_records(line, "parts", relaxed.placed.parts.as_slice())
 }
 
 /// Adds how relaxation ends behind a first placement, or why it doesn't.
 fn add_passes<P: Platform>(
     alloc: Global,
-    line: &mut Line,
+    line: &mut String,
     link: &LinkInput,
     platform: &P,
     live: &Live,
     first: Placed,
-)
+) -> Result<(), AllocError>
     requires good { IsWellFormed link.now }
     requires live { AreLive link.now live.now }
     requires fits { size_refusal (own_filling link.now (P.table_sizes platform.now) live.now [] []) ≡ None }
@@ -332,20 +332,20 @@ fn add_passes<P: Platform>(
 {
     match perform_iterative_relaxation(alloc, link, platform, live, &[], &[], 0, first) {
         Ok(relaxed) => add_end(alloc, line, &relaxed),
-        Err(PlaceError::NoMemory) => line.run_out(),
-        Err(error) => line.add("refused", &error),
+        Err(PlaceError::NoMemory) => Err(AllocError),
+        Err(error) => add(line, "refused", &error),
     }
 }
 
 /// Adds all of a link that is sized, with headers of no bytes.
 fn add_sized<P: Platform>(
     alloc: Global,
-    line: &mut Line,
+    line: &mut String,
     link: &LinkInput,
     platform: &P,
     live: &Live,
     owners: &PartOwners,
-)
+) -> Result<(), AllocError>
     requires good { IsWellFormed link.now }
     requires live { AreLive link.now live.now }
     requires fits { size_refusal (own_filling link.now (P.table_sizes platform.now) live.now [] []) ≡ None }
@@ -353,37 +353,36 @@ fn add_sized<P: Platform>(
 {
     match place_first(alloc, link, live, owners, 0, platform) {
         Ok(first) => {
-            add_first(alloc, line, link, live, owners, first.parts.as_slice());
+            add_first(alloc, line, link, live, owners, first.parts.as_slice())?;
             add_passes(alloc, line, link, platform, live, first)
         }
-        Err(PlaceError::NoMemory) => line.run_out(),
-        Err(error) => line.add("refused at first", &error),
+        Err(PlaceError::NoMemory) => Err(AllocError),
+        Err(error) => add(line, "refused at first", &error),
     }
 }
 
 /// Adds all of a link of which this is live.
 fn add_live<P: Platform>(
     alloc: Global,
-    line: &mut Line,
+    line: &mut String,
     link: &LinkInput,
     platform: &P,
     live: &Live,
-)
+) -> Result<(), AllocError>
     requires good { IsWellFormed link.now }
     requires live { AreLive link.now live.now }
 {
     match plain_owners(alloc, link, platform, live, &[]) {
         Ok(owners) => add_sized(alloc, line, link, platform, live, &owners),
-        Err(SizeError::NoMemory) => line.run_out(),
-        Err(error) => line.add("refused", &error),
+        Err(SizeError::NoMemory) => Err(AllocError),
+        Err(error) => add(line, "refused", &error),
     }
 }
 
 /// Adds all of a link, if it is well formed.
-fn add_checked(alloc: Global, line: &mut Line, link: &LinkInput) {
+fn add_checked(alloc: Global, line: &mut String, link: &LinkInput) -> Result<(), AllocError> {
     if check_link(link).is_err() {
-        line.push_str("bad link");
-        return;
+        return line.push_str("bad link");
     }
     match traverse_alone(alloc, link) {
         Ok(live) => add_live(alloc, line, link, &Small64, &live),
@@ -393,26 +392,32 @@ fn add_checked(alloc: Global, line: &mut Line, link: &LinkInput) {
 
 /// Adds a record: where it starts in memory and in the file, each with its bytes, its alignment, and its load address, if that isn't where
 /// it starts.
-fn add_record(line: &mut Line, record: &OutputRecordLayout) {
+fn add_record(line: &mut String, record: &OutputRecordLayout) -> Result<(), AllocError> {
     let (memory, bytes) = (record.mem_offset, record.mem_size);
     let (offset, in_file) = (record.file_offset, record.file_size);
     let (alignment, load) = (record.alignment.value(), record.lma_offset);
-    write!(line, " {memory},{bytes},{offset},{in_file},{alignment}");
-    if load != memory {
-        write!(line, ",{load}");
+    write!(line, " {memory},{bytes},{offset},{in_file},{alignment}")?;
+    if load == memory {
+        return Ok(());
     }
+    write!(line, ",{load}")
 }
 
 /// Adds records behind a word.
-fn add_records(line: &mut Line, word: &str, records: &[OutputRecordLayout]) {
-    write!(line, " {word}");
+fn add_records(
+    line: &mut String,
+    word: &str,
+    records: &[OutputRecordLayout],
+) -> Result<(), AllocError> {
+    write!(line, " {word}")?;
     for record in records {
-        add_record(line, record);
+        add_record(line, record)?;
     }
+    Ok(())
 }
 
 /// Adds all of the link that a text stands for.
-pub fn add_relaxed(alloc: Global, line: &mut Line, text: &str) {
+pub fn add_relaxed(alloc: Global, line: &mut String, text: &str) -> Result<(), AllocError> {
     match &read_link(alloc, text.as_bytes()) {
         Ok(link) => add_checked(alloc, line, link),
         Err(error) => write!(line, "no link: {error}"),
@@ -420,90 +425,85 @@ pub fn add_relaxed(alloc: Global, line: &mut Line, text: &str) {
 }
 
 #[test]
-fn passes_delete_what_is_near(rt: HostRuntime) -> Result<(), Failed> {
-    expect_rows(&rt, rt.alloc(), &Asked::Relaxed, RELAXED)
+fn passes_delete_what_is_near(rt: HostRuntime) -> Result<(), Fail> {
+    expect_rows(&rt, rt.alloc(), Asked::Relaxed, RELAXED)
 }
 
 #[test]
-fn passes_go_by_what_stands_for_symbols(rt: HostRuntime) -> Result<(), Failed> {
-    expect_rows(&rt, rt.alloc(), &Asked::Relaxed, TARGETS)
+fn passes_go_by_what_stands_for_symbols(rt: HostRuntime) -> Result<(), Fail> {
+    expect_rows(&rt, rt.alloc(), Asked::Relaxed, TARGETS)
 }
 
 /// Adds where offsets of a section go of which nothing is deleted.
-fn add_kept(line: &mut Line) {
+fn add_kept(line: &mut String) -> Result<(), AllocError> {
     for offset in [0, 4, 6, 8, 16] {
         let place = opt_input_to_output(None, offset);
-        write!(line, " {place}");
+        write!(line, " {place}")?;
     }
+    Ok(())
 }
 
 /// Adds where they go where ranges are deleted.
-fn add_moved(line: &mut Line, deltas: &Result<SectionRelaxDeltas, AllocError>) {
-    match deltas {
-        Ok(deltas) => {
-            for offset in [0, 4, 6, 8, 16] {
-                let place = opt_input_to_output(Some(deltas), offset);
-                write!(line, " {place}");
-            }
-        }
-        Err(_) => line.run_out(),
+fn add_moved(line: &mut String, deltas: &SectionRelaxDeltas) -> Result<(), AllocError> {
+    for offset in [0, 4, 6, 8, 16] {
+        let place = opt_input_to_output(Some(deltas), offset);
+        write!(line, " {place}")?;
     }
+    Ok(())
 }
 
-/// Adds where offsets go where nothing is deleted, four bytes are, and three ranges, of which two touch.
-fn add_offsets(alloc: Global, line: &mut Line) {
-    add_kept(line);
-    add_moved(line, &SectionRelaxDeltas::new(alloc, &[(4, 4)]));
-    add_moved(
-        line,
-        &SectionRelaxDeltas::new(alloc, &[(0, 1), (4, 2), (6, 2)]),
-    )
+/// Where offsets go where nothing is deleted, four bytes are, and three ranges, of which two touch.
+fn told_offsets(alloc: Global) -> Result<String, AllocError> {
+    let one = SectionRelaxDeltas::new(alloc, &[(4, 4)])?;
+    let three = SectionRelaxDeltas::new(alloc, &[(0, 1), (4, 2), (6, 2)])?;
+    let mut line = String::new(alloc);
+    add_kept(&mut line)?;
+    add_moved(&mut line, &one)?;
+    add_moved(&mut line, &three)?;
+    Ok(line)
 }
 
 #[test]
-fn offsets_go_by_what_is_deleted_before_them(rt: HostRuntime) -> Result<(), Failed> {
-    let mut line = Line::new(rt.alloc());
-    add_offsets(rt.alloc(), &mut line);
-    line.expect(&rt, "offsets", " 0 4 6 8 16 0 4 4 4 12 0 3 3 3 11")
+fn offsets_go_by_what_is_deleted_before_them(rt: HostRuntime) -> Result<(), Fail> {
+    let told = told_offsets(rt.alloc())?;
+    expect_text(&rt, told.as_str(), " 0 4 6 8 16 0 4 4 4 12 0 3 3 3 11");
+    Ok(())
 }
 
-/// Adds what ranges cut out of five numbers, one of them without items.
-fn add_shards(alloc: Global, line: &mut Line) {
+/// What ranges cut out of five numbers, one of them without items.
+fn told_shards(alloc: Global) -> Result<String, AllocError> {
     let mut numbers = [1, 2, 3, 4, 5];
-    match split_ordered_symbol_ranges(alloc, &mut numbers, &[0..2, 2..2, 4..5]) {
-        Ok(shards) => {
-            for (start, items) in &shards {
-                write!(line, " {start} {items:?}");
-            }
-        }
-        Err(_) => line.run_out(),
+    let shards = split_ordered_symbol_ranges(alloc, &mut numbers, &[0..2, 2..2, 4..5])?;
+    let mut line = String::new(alloc);
+    for (start, items) in &shards {
+        write!(line, " {start} {items:?}")?;
     }
+    Ok(line)
 }
 
 #[test]
-fn symbols_are_cut_by_ranges(rt: HostRuntime) -> Result<(), Failed> {
-    let mut line = Line::new(rt.alloc());
-    add_shards(rt.alloc(), &mut line);
-    line.expect(&rt, "shards", " 0 [1, 2] 0 [] 4 [5]")
+fn symbols_are_cut_by_ranges(rt: HostRuntime) -> Result<(), Fail> {
+    let told = told_shards(rt.alloc())?;
+    expect_text(&rt, told.as_str(), " 0 [1, 2] 0 [] 4 [5]");
+    Ok(())
 }
 
-/// Adds what 7 bytes, and the most, take in a part of this alignment.
-fn add_capacities(line: &mut Line, packed: bool) {
+/// What 7 bytes, and the most, take in a part of this alignment.
+fn told_capacities(alloc: Global, packed: bool) -> Result<String, AllocError> {
     let part = PlanPart {
         alignment: 8,
         packed,
     };
     let few = Section { size: 7 }.capacity(&part);
     let most = Section { size: u64::MAX }.capacity(&part);
-    write!(line, "{few:?} {most:?}")
+    format!(in alloc; "{few:?} {most:?}")
 }
 
 #[test]
-fn sizes_are_rounded_up(rt: HostRuntime) -> Result<(), Failed> {
-    let mut plain = Line::new(rt.alloc());
-    add_capacities(&mut plain, false);
-    plain.expect(&rt, "plain", "Some(8) None")?;
-    let mut packed = Line::new(rt.alloc());
-    add_capacities(&mut packed, true);
-    packed.expect(&rt, "packed", "Some(7) Some(18446744073709551615)")
+fn sizes_are_rounded_up(rt: HostRuntime) -> Result<(), Fail> {
+    let plain = told_capacities(rt.alloc(), false)?;
+    let packed = told_capacities(rt.alloc(), true)?;
+    expect_text(&rt, plain.as_str(), "Some(8) None");
+    expect_text(&rt, packed.as_str(), "Some(7) Some(18446744073709551615)");
+    Ok(())
 }

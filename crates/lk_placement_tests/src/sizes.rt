@@ -7,8 +7,7 @@ use crate::sizes::parts::{add_live, add_sizes, add_sums};
 use crate::sizes::tables::add_tables;
 use lk_input::{InputError, read_link};
 use lk_link::LinkInput;
-use lk_test_rows::Line;
-use std::alloc::Global;
+use std::alloc::{AllocError, Global};
 use std::sync::Wait;
 use std::thread::Threads;
 
@@ -50,10 +49,10 @@ fn link_of(alloc: Global, asked: OfSizes, text: &str) -> Result<LinkInput, Input
 fn add_of(
     rt: &(impl Threads + Wait + Sync),
     alloc: Global,
-    line: &mut Line,
+    line: &mut String,
     asked: OfSizes,
     link: &LinkInput,
-) {
+) -> Result<(), AllocError> {
     match asked {
         OfSizes::Live | OfSizes::HandMadeLive => add_live(alloc, line, link),
         OfSizes::Sizes => add_sizes(alloc, line, link),
@@ -68,10 +67,10 @@ fn add_of(
 fn add_found(
     rt: &(impl Threads + Wait + Sync),
     alloc: Global,
-    line: &mut Line,
+    line: &mut String,
     asked: OfSizes,
     link: &Result<LinkInput, InputError>,
-) {
+) -> Result<(), AllocError> {
     match link {
         Ok(link) => add_of(rt, alloc, line, asked, link),
         Err(error) => write!(line, "no link: {error}"),
@@ -82,10 +81,10 @@ fn add_found(
 pub fn add_of_sizes(
     rt: &(impl Threads + Wait + Sync),
     alloc: Global,
-    line: &mut Line,
+    line: &mut String,
     asked: OfSizes,
     text: &str,
-) {
+) -> Result<(), AllocError> {
     let link = link_of(alloc, asked, text);
     add_found(rt, alloc, line, asked, &link)
 }

@@ -8,7 +8,6 @@ use lk_check::check_link;
 use lk_explain::Unit;
 use lk_input::{InputError, read_link};
 use lk_link::{FileId, LinkInput, SymbolId};
-use lk_test_rows::Line;
 use std::alloc::{AllocError, Global};
 
 mod checked;
@@ -66,7 +65,13 @@ fn units_of(alloc: Global, text: &str) -> Result<Vec<Unit>, AllocError> {
 }
 
 /// Adds what is answered of units of a link.
-fn add_asked(alloc: Global, asked: OfPaths, line: &mut Line, link: &LinkInput, units: &[Unit])
+fn add_asked(
+    alloc: Global,
+    asked: OfPaths,
+    line: &mut String,
+    link: &LinkInput,
+    units: &[Unit],
+) -> Result<(), AllocError>
     requires { IsWellFormed link.now }
 {
     match asked {
@@ -79,33 +84,30 @@ fn add_asked(alloc: Global, asked: OfPaths, line: &mut Line, link: &LinkInput, u
 fn add_found(
     alloc: Global,
     asked: OfPaths,
-    line: &mut Line,
+    line: &mut String,
     link: &Result<LinkInput, InputError>,
     units: &[Unit],
-) {
+) -> Result<(), AllocError> {
     match link {
         Ok(link) => {
             if check_link(link).is_err() {
-                line.push_str("bad link")
-            } else {
-                add_asked(alloc, asked, line, link, units)
+                return line.push_str("bad link");
             }
+            add_asked(alloc, asked, line, link, units)
         }
         Err(error) => write!(line, "no link: {error}"),
     }
 }
 
-/// Adds what is answered of units of the link that a description is.
-fn add_of_units(alloc: Global, asked: OfPaths, line: &mut Line, description: &str, units: &[Unit]) {
-    let link = read_link(alloc, description.as_bytes());
-    add_found(alloc, asked, line, &link, units)
-}
-
 /// Adds what is answered.
-pub fn add_of_paths(alloc: Global, line: &mut Line, asked: OfPaths, text: &str) {
+pub fn add_of_paths(
+    alloc: Global,
+    line: &mut String,
+    asked: OfPaths,
+    text: &str,
+) -> Result<(), AllocError> {
     let (units, description) = text.split_once(": ").unwrap_or((text, ""));
-    match units_of(alloc, units) {
-        Ok(units) => add_of_units(alloc, asked, line, description, units.as_slice()),
-        Err(_) => line.run_out(),
-    }
+    let units = units_of(alloc, units)?;
+    let link = read_link(alloc, description.as_bytes());
+    add_found(alloc, asked, line, &link, units.as_slice())
 }

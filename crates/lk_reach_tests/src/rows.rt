@@ -1,12 +1,13 @@
-//! What rows ask here.
+//! What rows ask here, and that the answers are theirs.
 
 use crate::paths::{OfPaths, add_of_paths};
 use crate::thunks::{OfThunks, add_of_thunks};
 use crate::traversal::{OfTraversal, add_of_traversal};
-use lk_test_rows::{Failed, Line, Row, rows_of};
-use std::alloc::Global;
-use std::io::Eprint;
+use lk_test_rows::{Row, rows_of};
+use std::alloc::{AllocError, Global};
+use std::process::Abort;
 use std::sync::Wait;
+use std::test::Fail;
 use std::thread::Threads;
 
 /// What is asked about a text.
@@ -24,65 +25,56 @@ pub enum Asked {
 fn add_answer(
     rt: &(impl Threads + Wait + Sync),
     alloc: Global,
-    line: &mut Line,
-    asked: &Asked,
+    line: &mut String,
+    asked: Asked,
     text: &str,
-) {
+) -> Result<(), AllocError> {
     match asked {
-        Asked::Traversal(asked) => add_of_traversal(rt, alloc, line, *asked, text),
-        Asked::Paths(asked) => add_of_paths(alloc, line, *asked, text),
-        Asked::Thunks(asked) => add_of_thunks(alloc, line, *asked, text),
+        Asked::Traversal(asked) => add_of_traversal(rt, alloc, line, asked, text),
+        Asked::Paths(asked) => add_of_paths(alloc, line, asked, text),
+        Asked::Thunks(asked) => add_of_thunks(alloc, line, asked, text),
     }
 }
 
-/// Adds what is answered to a row.
-fn add_row(
+/// What is answered to a row.
+fn answer(
     rt: &(impl Threads + Wait + Sync),
     alloc: Global,
-    line: &mut Line,
-    asked: &Asked,
+    asked: Asked,
     row: Row,
-) {
-    match row.text(alloc) {
-        Ok(text) => add_answer(rt, alloc, line, asked, text.as_str()),
-        Err(_) => line.run_out(),
-    }
+) -> Result<String, AllocError> {
+    let text = row.text(alloc)?;
+    let mut line = String::new(alloc);
+    add_answer(rt, alloc, &mut line, asked, text.as_str())?;
+    Ok(line)
+}
+
+/// Wants this text of a row with this front.
+fn expect_answer(rt: &impl Abort, front: &str, found: &str, want: &str) {
+    assert_eq!(rt; found, want, "for {front}");
 }
 
 /// Wants a row's answer.
 fn expect_row(
-    rt: &(impl Eprint + Threads + Wait + Sync),
+    rt: &(impl Abort + Threads + Wait + Sync),
     alloc: Global,
-    asked: &Asked,
+    asked: Asked,
     row: Row,
-) -> Result<(), Failed> {
-    let mut line = Line::new(alloc);
-    add_row(rt, alloc, &mut line, asked, row);
-    line.expect_row(rt, alloc, row)
-}
-
-/// Wants the answers of these rows.
-fn expect_each(
-    rt: &(impl Eprint + Threads + Wait + Sync),
-    alloc: Global,
-    asked: &Asked,
-    rows: &[Row],
-) -> Result<(), Failed> {
-    for row in rows {
-        expect_row(rt, alloc, asked, *row)?;
-    }
+) -> Result<(), Fail> {
+    let line = answer(rt, alloc, asked, row)?;
+    expect_answer(rt, row.front, line.as_str(), row.want);
     Ok(())
 }
 
 /// Wants each row's answer.
 pub fn expect_rows(
-    rt: &(impl Eprint + Threads + Wait + Sync),
+    rt: &(impl Abort + Threads + Wait + Sync),
     alloc: Global,
-    asked: &Asked,
+    asked: Asked,
     rows: &'static str,
-) -> Result<(), Failed> {
-    match &rows_of(alloc, rows) {
-        Ok(rows) => expect_each(rt, alloc, asked, rows),
-        Err(_) => Err(Failed::NoMemory),
+) -> Result<(), Fail> {
+    for row in rows_of(alloc, rows)? {
+        expect_row(rt, alloc, asked, row)?;
     }
+    Ok(())
 }

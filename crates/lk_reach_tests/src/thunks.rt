@@ -3,8 +3,7 @@
 use crate::thunks::blocks::add_blocks;
 use crate::thunks::planned::add_planned;
 use crate::thunks::reach::add_reach;
-use lk_test_rows::Line;
-use std::alloc::Global;
+use std::alloc::{AllocError, Global};
 
 mod blocks;
 mod planned;
@@ -27,7 +26,12 @@ pub fn number(text: &str) -> u64 {
 }
 
 /// Adds what is answered.
-pub fn add_of_thunks(alloc: Global, line: &mut Line, asked: OfThunks, text: &str) {
+pub fn add_of_thunks(
+    alloc: Global,
+    line: &mut String,
+    asked: OfThunks,
+    text: &str,
+) -> Result<(), AllocError> {
     match asked {
         OfThunks::Blocks => add_blocks(alloc, line, text),
         OfThunks::Planned => add_planned(alloc, line, text),

@@ -5,8 +5,7 @@ use crate::traversal::reached::{add_asks, add_reached};
 use crate::traversal::workers::{add_by_turns, add_in_lock_step, add_walks};
 use lk_input::{InputError, read_link};
 use lk_link::LinkInput;
-use lk_test_rows::Line;
-use std::alloc::Global;
+use std::alloc::{AllocError, Global};
 use std::sync::Wait;
 use std::thread::Threads;
 
@@ -39,10 +38,10 @@ pub enum OfTraversal {
 fn add_of(
     rt: &(impl Threads + Wait + Sync),
     alloc: Global,
-    line: &mut Line,
+    line: &mut String,
     asked: OfTraversal,
     link: &LinkInput,
-) {
+) -> Result<(), AllocError> {
     match asked {
         OfTraversal::Asks => add_asks(line, link),
         OfTraversal::Reached => add_reached(alloc, line, link),
@@ -59,10 +58,10 @@ fn add_of(
 fn add_found(
     rt: &(impl Threads + Wait + Sync),
     alloc: Global,
-    line: &mut Line,
+    line: &mut String,
     asked: OfTraversal,
     link: &Result<LinkInput, InputError>,
-) {
+) -> Result<(), AllocError> {
     match link {
         Ok(link) => add_of(rt, alloc, line, asked, link),
         Err(error) => write!(line, "no link: {error}"),
@@ -73,10 +72,10 @@ fn add_found(
 pub fn add_of_traversal(
     rt: &(impl Threads + Wait + Sync),
     alloc: Global,
-    line: &mut Line,
+    line: &mut String,
     asked: OfTraversal,
     text: &str,
-) {
+) -> Result<(), AllocError> {
     let link = read_link(alloc, text.as_bytes());
     add_found(rt, alloc, line, asked, &link)
 }

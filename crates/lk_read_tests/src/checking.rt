@@ -1,6 +1,6 @@
 //! The check: descriptions with one thing broken, lists that are too long, and links that no description gives.
 
-use crate::rows::Asked;
+use crate::rows::{Asked, expect_answer, expect_rows};
 use crate::shown::Shown;
 use lk_check::{check_link, check_link_by_groups};
 use lk_input::{InputError, read_link};
@@ -8,18 +8,18 @@ use lk_link::{
     Emit, LinkFault, LinkInput, List, OrderEvent, OutputSectionId, PlanPart, PlanSection,
     PlanSections, Text,
 };
-use lk_test_rows::{Failed, Line, Row, expect_rows, groups_of, rows_of, with_groups};
+use lk_test_rows::{Row, groups_of, rows_of, with_groups};
 use std::alloc::{AllocError, Global};
-use std::io::Eprint;
+use std::test::Fail;
 use std::thread::Threads;
 
 /// Adds what the check answers, as the refusal's text tells it.
-pub fn add_check(line: &mut Line, link: &LinkInput) {
+pub fn add_check(line: &mut String, link: &LinkInput) -> Result<(), AllocError> {
     add_outcome(line, &check_link(link))
 }
 
 /// Adds what a check answered.
-fn add_outcome(line: &mut Line, outcome: &Result<(), LinkFault>) {
+fn add_outcome(line: &mut String, outcome: &Result<(), LinkFault>) -> Result<(), AllocError> {
     match outcome {
         Ok(()) => line.push_str("well formed"),
         Err(fault) => write!(line, "{fault}"),
@@ -484,52 +484,42 @@ const RULES: &str = r#"
 "#;
 
 #[test]
-fn each_rule_is_kept_or_broken(rt: HostRuntime) -> Result<(), Failed> {
-    expect_rows(&rt, rt.alloc(), &Asked::Of(Shown::Check), RULES)
+fn each_rule_is_kept_or_broken(rt: HostRuntime) -> Result<(), Fail> {
+    expect_rows(&rt, rt.alloc(), Asked::Of(Shown::Check), RULES)
 }
 
 /// Adds what the check answers that looks at what files hold group by group.
 fn add_check_by_groups<R: Threads + Sync>(
     rt: &R,
-    line: &mut Line,
+    line: &mut String,
     link: &Result<LinkInput, InputError>,
-) {
+) -> Result<(), AllocError> {
     match link {
         Ok(link) => add_outcome(line, &check_link_by_groups(rt, link)),
         Err(error) => write!(line, "no link: {error}"),
     }
 }
 
-/// Adds what it answers to a row.
-fn add_row_by_groups<R: Threads + Sync>(rt: &R, alloc: Global, line: &mut Line, row: Row) {
-    match row.text(alloc) {
-        Ok(text) => add_check_by_groups(rt, line, &read_link(alloc, text.as_bytes())),
-        Err(_) => line.run_out(),
-    }
-}
-
-/// Wants its answer to a row.
-fn expect_row_by_groups<R: Eprint + Threads + Sync>(
+/// What it answers to a row.
+fn answer_by_groups<R: Threads + Sync>(
     rt: &R,
     alloc: Global,
     row: Row,
-) -> Result<(), Failed> {
-    let mut line = Line::new(alloc);
-    add_row_by_groups(rt, alloc, &mut line, row);
-    line.expect_row(rt, alloc, row)
+) -> Result<String, AllocError> {
+    let text = row.text(alloc)?;
+    let link = read_link(alloc, text.as_bytes());
+    let mut line = String::new(alloc);
+    add_check_by_groups(rt, &mut line, &link)?;
+    Ok(line)
 }
 
 #[test]
-fn each_rule_is_kept_or_broken_by_groups(rt: HostRuntime) -> Result<(), Failed> {
-    match rows_of(rt.alloc(), RULES) {
-        Ok(rows) => {
-            for row in rows {
-                expect_row_by_groups(&rt, rt.alloc(), row)?;
-            }
-            Ok(())
-        }
-        Err(_) => Err(Failed::NoMemory),
+fn each_rule_is_kept_or_broken_by_groups(rt: HostRuntime) -> Result<(), Fail> {
+    for row in rows_of(rt.alloc(), RULES)? {
+        let line = answer_by_groups(&rt, rt.alloc(), row)?;
+        expect_answer(&rt, row.front, line.as_str(), row.want);
     }
+    Ok(())
 }
 
 /// How many parts the one section of a link has and how many events its plan.
@@ -594,8 +584,8 @@ pub fn crowded_link(alloc: Global, line: &str) -> Result<LinkInput, InputError> 
 }
 
 #[test]
-fn parts_and_events_have_limits(rt: HostRuntime) -> Result<(), Failed> {
-    expect_rows(&rt, rt.alloc(), &Asked::OfCrowded(Shown::Check), CROWDED)
+fn parts_and_events_have_limits(rt: HostRuntime) -> Result<(), Fail> {
+    expect_rows(&rt, rt.alloc(), Asked::OfCrowded(Shown::Check), CROWDED)
 }
 
 /// A plan of the parts 0 and 1, of which part 1 is a table.
@@ -620,6 +610,6 @@ p00 d00 s00 => well formed
 ";
 
 #[test]
-fn sections_of_files_that_are_no_objects_are_looked_at(rt: HostRuntime) -> Result<(), Failed> {
-    expect_rows(&rt, rt.alloc(), &Asked::OfHandMade(Shown::Check), HAND_MADE)
+fn sections_of_files_that_are_no_objects_are_looked_at(rt: HostRuntime) -> Result<(), Fail> {
+    expect_rows(&rt, rt.alloc(), Asked::OfHandMade(Shown::Check), HAND_MADE)
 }

@@ -4,12 +4,14 @@ ghost use Rattle.std.specs.Prelude.{◌<◌, ◌^◌};
 ghost use Rattle.lk_link.specs.Files.{AreNumbered};
 ghost use Rattle.lk_link.specs.Symbols.{all_files, symbol_count};
 
-use crate::rows::Asked;
+use crate::rows::{Asked, expect_rows, expect_text};
 use crate::shown::Shown;
 use lk_link::{
     FileId, InputGroups, InputSymbol, Options, OutputSectionId, SymbolId, SymbolIdRange,
 };
-use lk_test_rows::{Failed, Line, expect_rows};
+use lk_test_rows::add;
+use std::alloc::AllocError;
+use std::test::Fail;
 
 /// Three groups with five symbols, whose flags are their numbers: empty files round them, and an empty group between.
 /// Behind the counts of files and symbols stand the file, the flags and the definition of the first six symbols.
@@ -43,105 +45,120 @@ fn flags_of(symbol: Option<&InputSymbol>) -> Option<u32> {
 }
 
 /// Adds the file, the flags and the definition of a symbol.
-fn add_symbol(line: &mut Line, groups: &InputGroups, id: SymbolId)
+fn add_symbol(line: &mut String, groups: &InputGroups, id: SymbolId) -> Result<(), AllocError>
     requires { AreNumbered groups.now }
 {
     let flags = flags_of(groups.symbol(id));
     let values = (groups.file_of_symbol(id), flags, groups.definition(id));
-    line.add("symbol", &values)
+    add(line, "symbol", &values)
 }
 
 /// Adds the counts of files and symbols, and the first six symbols of groups and files that aren't too many.
-pub fn add_symbols(line: &mut Line, groups: &InputGroups) {
-    line.add("counts", &(groups.file_count(), groups.symbol_count()));
+pub fn add_symbols(line: &mut String, groups: &InputGroups) -> Result<(), AllocError> {
+    add(
+        line,
+        "counts",
+        &(groups.file_count(), groups.symbol_count()),
+    )?;
     if groups.len() <= 65535 && groups.file_count() <= 16777216 {
         for number in 0..6 {
-            add_symbol(line, groups, SymbolId::from_u32(number));
+            add_symbol(line, groups, SymbolId::from_u32(number))?;
         }
     }
+    Ok(())
 }
 
 /// Adds whether there is a file, its number, and the range of its symbols.
-fn add_file(line: &mut Line, groups: &InputGroups, id: FileId)
+fn add_file(line: &mut String, groups: &InputGroups, id: FileId) -> Result<(), AllocError>
     requires { symbol_count (all_files groups.now) < 2 ^ 32 }
 {
     let (number, range) = (groups.file_number(id), groups.symbol_id_range(id));
-    line.add("file", &(groups.file(id).is_some(), number, range))
+    add(line, "file", &(groups.file(id).is_some(), number, range))
 }
 
 /// Adds the files of four groups, three of each, unless there are too many symbols.
-pub fn add_files(line: &mut Line, groups: &InputGroups) {
+pub fn add_files(line: &mut String, groups: &InputGroups) -> Result<(), AllocError> {
     if groups.symbol_count() < 4294967296 {
         for place in 0..12 {
             let (group, file) = (place / 3, place % 3);
-            add_file(line, groups, FileId { group, file });
+            add_file(line, groups, FileId { group, file })?;
         }
     }
+    Ok(())
 }
 
 /// Adds whether the first file has a fifth and a sixth section, and the members of some groups with the candidates of the
 /// output sections of the same numbers.
-pub fn add_members(line: &mut Line, groups: &InputGroups) {
+pub fn add_members(line: &mut String, groups: &InputGroups) -> Result<(), AllocError> {
     if let Some(file) = groups.file(FileId { group: 0, file: 0 }) {
         let (fifth, sixth) = (file.sections.get(4), file.sections.get(5));
-        line.add("sections", &(fifth.is_some(), sixth.is_some()));
+        add(line, "sections", &(fifth.is_some(), sixth.is_some()))?;
         for number in [7, 3, 0, 5, 9] {
             let candidates = file.candidates.of(OutputSectionId::from_u32(number));
-            line.add(
+            add(
+                line,
                 "number",
                 &(number, file.sections.members(number), candidates),
-            );
+            )?;
         }
     }
+    Ok(())
 }
 
 /// Adds whether some names are among those that are stripped.
-pub fn add_names(line: &mut Line, options: &Options) {
+pub fn add_names(line: &mut String, options: &Options) -> Result<(), AllocError> {
     for name in ["", "aa", "ab", "b", "a", "abc", "c"] {
-        line.add("name", &(name, options.strip_names.contains(name)));
+        add(line, "name", &(name, options.strip_names.contains(name)))?;
     }
+    Ok(())
 }
 
 #[test]
-fn symbols_are_found_by_number(rt: HostRuntime) -> Result<(), Failed> {
-    expect_rows(&rt, rt.alloc(), &Asked::Of(Shown::Symbols), SYMBOLS)
+fn symbols_are_found_by_number(rt: HostRuntime) -> Result<(), Fail> {
+    expect_rows(&rt, rt.alloc(), Asked::Of(Shown::Symbols), SYMBOLS)
 }
 
 #[test]
-fn files_have_ranges_of_symbols(rt: HostRuntime) -> Result<(), Failed> {
-    expect_rows(&rt, rt.alloc(), &Asked::Of(Shown::Files), FILES)
+fn files_have_ranges_of_symbols(rt: HostRuntime) -> Result<(), Fail> {
+    expect_rows(&rt, rt.alloc(), Asked::Of(Shown::Files), FILES)
 }
 
 #[test]
-fn members_and_candidates_keep_their_order(rt: HostRuntime) -> Result<(), Failed> {
-    expect_rows(&rt, rt.alloc(), &Asked::Of(Shown::Members), MEMBERS)
+fn members_and_candidates_keep_their_order(rt: HostRuntime) -> Result<(), Fail> {
+    expect_rows(&rt, rt.alloc(), Asked::Of(Shown::Members), MEMBERS)
 }
 
 #[test]
-fn names_are_found(rt: HostRuntime) -> Result<(), Failed> {
-    expect_rows(&rt, rt.alloc(), &Asked::Of(Shown::Names), NAMES)
+fn names_are_found(rt: HostRuntime) -> Result<(), Fail> {
+    expect_rows(&rt, rt.alloc(), Asked::Of(Shown::Names), NAMES)
 }
 
 /// Adds whether a range holds a number.
-fn add_number(line: &mut Line, range: SymbolIdRange, number: u32) {
-    line.add(
+fn add_number(line: &mut String, range: SymbolIdRange, number: u32) -> Result<(), AllocError> {
+    add(
+        line,
         "holds",
         &(number, range.contains(SymbolId::from_u32(number))),
     )
 }
 
 #[test]
-fn ranges_hold_numbers(rt: HostRuntime) -> Result<(), Failed> {
+fn ranges_hold_numbers(rt: HostRuntime) -> Result<(), Fail> {
     let range = SymbolIdRange::new(SymbolId::from_u32(2), 3);
-    let mut line = Line::new(rt.alloc());
+    let mut line = String::new(rt.alloc());
     for number in [1, 2, 4, 5] {
-        add_number(&mut line, range, number);
+        add_number(&mut line, range, number)?;
     }
     let index = range.id_to_offset(SymbolId::from_u32(3));
-    line.add("has", &(range.is_empty(), range.offset_to_id(2), index));
-    line.expect(
+    add(
+        &mut line,
+        "has",
+        &(range.is_empty(), range.offset_to_id(2), index),
+    )?;
+    expect_text(
         &rt,
-        "all",
+        line.as_str(),
         "holds (1, false) holds (2, true) holds (4, true) holds (5, false) has (false, SymbolId { number: 4 }, 1)",
-    )
+    );
+    Ok(())
 }

@@ -1,12 +1,13 @@
 //! Reading in pieces: the answers are those of the whole text, whatever the pieces are and whoever reads them.
 
 use crate::reading::add_result;
+use crate::rows::expect_answer;
 use crate::shown::{Shown, add_shown};
 use lk_input::{InputError, read_link, read_link_in_pieces, read_link_in_pieces_by_workers};
 use lk_link::LinkInput;
-use lk_test_rows::{Failed, Line};
 use std::alloc::{AllocError, Global};
-use std::io::Eprint;
+use std::process::Abort;
+use std::test::Fail;
 use std::thread::Threads;
 
 /// Sizes of pieces, in bytes.
@@ -72,49 +73,49 @@ const TEXTS: [&str; 38] = [
 ];
 
 /// All that is told of what was read.
-fn told(alloc: Global, read: &Result<LinkInput, InputError>) -> Line {
-    let mut line = Line::new(alloc);
-    add_result(&mut line, read);
+fn told(alloc: Global, read: &Result<LinkInput, InputError>) -> Result<String, AllocError> {
+    let mut line = String::new(alloc);
+    add_result(&mut line, read)?;
     if let Ok(link) = read {
-        add_shown(alloc, &mut line, Shown::Options, link);
-        add_shown(alloc, &mut line, Shown::Plan, link);
-        add_shown(alloc, &mut line, Shown::Groups, link);
+        add_shown(alloc, &mut line, Shown::Options, link)?;
+        add_shown(alloc, &mut line, Shown::Plan, link)?;
+        add_shown(alloc, &mut line, Shown::Groups, link)?;
     }
-    line
+    Ok(line)
 }
 
 /// Wants the same of a text in pieces as of the whole, by each number of workers.
-fn expect_alike_by_size<R: Threads + Eprint + Sync>(
+fn expect_alike_by_size<R: Threads + Abort + Sync>(
     rt: &R,
     alloc: Global,
     text: &str,
-    want: &Line,
+    want: &str,
     size: usize,
-) -> Result<(), Failed> {
+) -> Result<(), AllocError> {
     let read = read_link_in_pieces(alloc, text.as_bytes(), size);
-    told(alloc, &read).expect_as(rt, text, want)?;
+    expect_answer(rt, text, told(alloc, &read)?.as_str(), want);
     for workers in WORKERS {
         let read = read_link_in_pieces_by_workers(rt, alloc, text.as_bytes(), workers, size);
-        told(alloc, &read).expect_as(rt, text, want)?;
+        expect_answer(rt, text, told(alloc, &read)?.as_str(), want);
     }
     Ok(())
 }
 
 /// Wants the same of a text in pieces of each size as of the whole.
-fn expect_alike<R: Threads + Eprint + Sync>(
+fn expect_alike<R: Threads + Abort + Sync>(
     rt: &R,
     alloc: Global,
     text: &str,
-) -> Result<(), Failed> {
-    let whole = told(alloc, &read_link(alloc, text.as_bytes()));
+) -> Result<(), AllocError> {
+    let whole = told(alloc, &read_link(alloc, text.as_bytes()))?;
     for size in SIZES {
-        expect_alike_by_size(rt, alloc, text, &whole, size)?;
+        expect_alike_by_size(rt, alloc, text, whole.as_str(), size)?;
     }
     Ok(())
 }
 
 #[test]
-fn pieces_are_read_as_the_whole(rt: HostRuntime) -> Result<(), Failed> {
+fn pieces_are_read_as_the_whole(rt: HostRuntime) -> Result<(), Fail> {
     for text in TEXTS {
         expect_alike(&rt, rt.alloc(), text)?;
     }
@@ -146,12 +147,10 @@ const FAULTS: [(&str, &str); 5] = [
 ];
 
 #[test]
-fn faults_in_pieces_have_their_paths(rt: HostRuntime) -> Result<(), Failed> {
+fn faults_in_pieces_have_their_paths(rt: HostRuntime) -> Result<(), Fail> {
     for (text, path) in FAULTS {
-        let mut want = Line::new(rt.alloc());
-        want.push_str(path);
         for size in SIZES {
-            expect_alike_by_size(&rt, rt.alloc(), text, &want, size)?;
+            expect_alike_by_size(&rt, rt.alloc(), text, path, size)?;
         }
     }
     Ok(())
@@ -206,12 +205,10 @@ fn drawn_text(alloc: Global, seed: u64, count: u64) -> Result<String, AllocError
 }
 
 #[test]
-fn drawn_pieces_are_read_as_the_whole(rt: HostRuntime) -> Result<(), Failed> {
+fn drawn_pieces_are_read_as_the_whole(rt: HostRuntime) -> Result<(), Fail> {
     for seed in 0..1000 {
-        match drawn_text(rt.alloc(), next_number(seed), 3 + seed % 9) {
-            Ok(text) => expect_alike(&rt, rt.alloc(), text.as_str())?,
-            Err(_) => return Err(Failed::NoMemory),
-        }
+        let text = drawn_text(rt.alloc(), next_number(seed), 3 + seed % 9)?;
+        expect_alike(&rt, rt.alloc(), text.as_str())?;
     }
     Ok(())
 }

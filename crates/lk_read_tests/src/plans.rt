@@ -2,11 +2,12 @@
 
 ghost use Rattle.std.specs.Prelude.{◌≤◌, length};
 
-use crate::rows::Asked;
+use crate::rows::{Asked, expect_rows, expect_text};
 use crate::shown::Shown;
-use lk_link::{InputSlot, List, OutputSectionId, Plan};
-use lk_test_rows::{Failed, Line, expect_rows};
-use std::alloc::Global;
+use lk_link::{InputSlot, OutputSectionId, Plan};
+use lk_test_rows::add;
+use std::alloc::{AllocError, Global};
+use std::test::Fail;
 
 /// Sections: with memory and bytes of the file; with memory alone; secondary to each of them, and thread-local; secondary to
 /// the first and zero-fill thread-local; without memory; and the one of the singletons, with a secondary one. What is told
@@ -21,38 +22,34 @@ const INSIDES: &str = r#"
 "#;
 
 /// Adds the attributes of a section, and what holds of it.
-fn add_section(line: &mut Line, plan: &Plan, id: OutputSectionId) {
+fn add_section(line: &mut String, plan: &Plan, id: OutputSectionId) -> Result<(), AllocError> {
     let (allocated, backed) = (plan.is_allocated(id), plan.is_file_backed(id));
     let (local, zero_fill) = (plan.is_thread_local(id), plan.is_zero_fill_thread_local(id));
     let (attributes, memory) = (plan.own_attributes(id), plan.has_memory(id));
-    line.add(
+    add(
+        line,
         "section",
         &(attributes, allocated, backed, local, zero_fill, memory),
     )
 }
 
 /// Adds the first eight sections.
-pub fn add_sections(line: &mut Line, plan: &Plan) {
+pub fn add_sections(line: &mut String, plan: &Plan) -> Result<(), AllocError> {
     for number in 0..8 {
-        add_section(line, plan, OutputSectionId::from_u32(number));
+        add_section(line, plan, OutputSectionId::from_u32(number))?;
     }
-}
-
-/// Adds the sections inside each segment.
-fn add_inside_each(line: &mut Line, insides: &Vec<List<OutputSectionId>>) {
-    for inside in insides {
-        line.add("inside", &inside.as_slice());
-    }
+    Ok(())
 }
 
 /// Adds the sections inside each of segments that aren't too many.
-pub fn add_insides(alloc: Global, line: &mut Line, plan: &Plan) {
-    if plan.segments.len() <= 64 {
-        match plan.sections_of_segments(alloc) {
-            Ok(insides) => add_inside_each(line, &insides),
-            Err(_) => line.run_out(),
-        }
+pub fn add_insides(alloc: Global, line: &mut String, plan: &Plan) -> Result<(), AllocError> {
+    if plan.segments.len() > 64 {
+        return Ok(());
     }
+    for inside in plan.sections_of_segments(alloc)? {
+        add(line, "inside", &inside.as_slice())?;
+    }
+    Ok(())
 }
 
 /// Expressions that are a number, as the default is, and one that isn't.
@@ -64,33 +61,34 @@ const BASES: &str = r#"
 "#;
 
 #[test]
-fn numbers_are_told_from_expressions(rt: HostRuntime) -> Result<(), Failed> {
-    expect_rows(&rt, rt.alloc(), &Asked::Of(Shown::Base), BASES)
+fn numbers_are_told_from_expressions(rt: HostRuntime) -> Result<(), Fail> {
+    expect_rows(&rt, rt.alloc(), Asked::Of(Shown::Base), BASES)
 }
 
 #[test]
-fn memory_and_backing_go_by_the_primary_section(rt: HostRuntime) -> Result<(), Failed> {
-    expect_rows(&rt, rt.alloc(), &Asked::Of(Shown::Sections), SECTIONS)
+fn memory_and_backing_go_by_the_primary_section(rt: HostRuntime) -> Result<(), Fail> {
+    expect_rows(&rt, rt.alloc(), Asked::Of(Shown::Sections), SECTIONS)
 }
 
 #[test]
-fn segments_hold_what_is_placed_while_they_are_open(rt: HostRuntime) -> Result<(), Failed> {
-    expect_rows(&rt, rt.alloc(), &Asked::Of(Shown::Insides), INSIDES)
+fn segments_hold_what_is_placed_while_they_are_open(rt: HostRuntime) -> Result<(), Fail> {
+    expect_rows(&rt, rt.alloc(), Asked::Of(Shown::Insides), INSIDES)
 }
 
 /// Adds what a slot says: discarded, merge, regular, must, debug, kept.
-fn add_slot(line: &mut Line, slot: InputSlot) {
+fn add_slot(line: &mut String, slot: InputSlot) -> Result<(), AllocError> {
     let (discarded, merge, regular) = (slot.is_discarded(), slot.is_merge(), slot.is_regular());
     let (must, debug, kept) = (slot.is_must(), slot.is_debug(), slot.can_be_kept());
-    line.add(
+    add(
+        line,
         "slot",
         &(slot, discarded, merge, regular, must, debug, kept),
     )
 }
 
 #[test]
-fn slots_are_told_apart(rt: HostRuntime) -> Result<(), Failed> {
-    let mut line = Line::new(rt.alloc());
+fn slots_are_told_apart(rt: HostRuntime) -> Result<(), Fail> {
+    let mut line = String::new(rt.alloc());
     for slot in [
         InputSlot::Discard,
         InputSlot::Unloaded,
@@ -99,16 +97,17 @@ fn slots_are_told_apart(rt: HostRuntime) -> Result<(), Failed> {
         InputSlot::MustLoadDebugInfo,
         InputSlot::Merge,
     ] {
-        add_slot(&mut line, slot);
+        add_slot(&mut line, slot)?;
     }
-    line.expect(
+    expect_text(
         &rt,
-        "all",
+        line.as_str(),
         "slot (Discard, true, false, false, false, false, false) \
         slot (Unloaded, false, false, true, false, false, true) \
         slot (MustLoad, false, false, true, true, false, true) \
         slot (DebugInfo, false, false, false, false, true, true) \
         slot (MustLoadDebugInfo, false, false, false, false, true, true) \
         slot (Merge, false, true, false, false, false, false)",
-    )
+    );
+    Ok(())
 }

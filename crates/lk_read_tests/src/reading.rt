@@ -1,10 +1,11 @@
 //! Reading: what is read of descriptions, and where others are refused.
 
-use crate::rows::Asked;
+use crate::rows::{Asked, expect_rows, expect_text};
 use crate::shown::Shown;
 use lk_input::{InputError, read_link};
 use lk_link::LinkInput;
-use lk_test_rows::{Failed, Line, expect_rows};
+use std::alloc::{AllocError, Global};
+use std::test::Fail;
 
 mod fields;
 mod items;
@@ -13,13 +14,16 @@ mod nesting;
 pub mod summary;
 
 /// Adds what reading gave: read, no JSON, or where the first fault is.
-pub fn add_result(line: &mut Line, read: &Result<LinkInput, InputError>) {
+pub fn add_result(
+    line: &mut String,
+    read: &Result<LinkInput, InputError>,
+) -> Result<(), AllocError> {
     match read {
         Ok(_) => line.push_str("read"),
         Err(InputError::NotJson) => line.push_str("not JSON"),
         Err(InputError::Shape(path)) if path.as_str().is_empty() => line.push_str("at the top"),
         Err(InputError::Shape(path)) => write!(line, "at {path}", path = path.as_str()),
-        Err(InputError::NoMemory) => line.run_out(),
+        Err(InputError::NoMemory) => Err(AllocError),
     }
 }
 
@@ -82,16 +86,17 @@ null => at the top
 "#;
 
 #[test]
-fn texts_are_read_or_refused(rt: HostRuntime) -> Result<(), Failed> {
-    expect_rows(&rt, rt.alloc(), &Asked::Outcome, OUTCOMES)
+fn texts_are_read_or_refused(rt: HostRuntime) -> Result<(), Fail> {
+    expect_rows(&rt, rt.alloc(), Asked::Outcome, OUTCOMES)
 }
 
 #[test]
-fn bytes_that_are_no_text_are_no_json(rt: HostRuntime) -> Result<(), Failed> {
-    let mut line = Line::new(rt.alloc());
+fn bytes_that_are_no_text_are_no_json(rt: HostRuntime) -> Result<(), Fail> {
+    let mut line = String::new(rt.alloc());
     let read = read_link(rt.alloc(), b"{\"plan\":{\"page\":1},\"x\":\"\xff\"}");
-    add_result(&mut line, &read);
-    line.expect(&rt, "all", "not JSON")
+    add_result(&mut line, &read)?;
+    expect_text(&rt, line.as_str(), "not JSON");
+    Ok(())
 }
 
 /// Options as a member behind the plan, or none, and what is read of them.
@@ -140,16 +145,16 @@ const GROUPS: &str = r#"
 "#;
 
 #[test]
-fn options_are_read(rt: HostRuntime) -> Result<(), Failed> {
-    expect_rows(&rt, rt.alloc(), &Asked::Of(Shown::Options), OPTIONS)
+fn options_are_read(rt: HostRuntime) -> Result<(), Fail> {
+    expect_rows(&rt, rt.alloc(), Asked::Of(Shown::Options), OPTIONS)
 }
 
 #[test]
-fn plans_are_read(rt: HostRuntime) -> Result<(), Failed> {
-    expect_rows(&rt, rt.alloc(), &Asked::Of(Shown::Plan), PLANS)
+fn plans_are_read(rt: HostRuntime) -> Result<(), Fail> {
+    expect_rows(&rt, rt.alloc(), Asked::Of(Shown::Plan), PLANS)
 }
 
 #[test]
-fn groups_are_read(rt: HostRuntime) -> Result<(), Failed> {
-    expect_rows(&rt, rt.alloc(), &Asked::Of(Shown::Groups), GROUPS)
+fn groups_are_read(rt: HostRuntime) -> Result<(), Fail> {
+    expect_rows(&rt, rt.alloc(), Asked::Of(Shown::Groups), GROUPS)
 }

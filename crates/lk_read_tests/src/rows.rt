@@ -1,12 +1,14 @@
-//! What rows ask here.
+//! What rows ask here, and that the answers are theirs.
 
 use crate::checking::{crowded_link, hand_made_link};
 use crate::reading::add_result;
 use crate::shown::{Shown, add_shown};
 use lk_input::{InputError, read_link};
 use lk_link::LinkInput;
-use lk_test_rows::{Asks, Line};
-use std::alloc::Global;
+use lk_test_rows::{Row, rows_of};
+use std::alloc::{AllocError, Global};
+use std::process::Abort;
+use std::test::Fail;
 
 /// What is asked about a text.
 #[derive(Clone, Copy)]
@@ -31,7 +33,12 @@ fn link_of(alloc: Global, asked: Asked, text: &str) -> Result<LinkInput, InputEr
 }
 
 /// Adds what is told of a link that there is.
-fn add_found(alloc: Global, line: &mut Line, shown: Shown, link: &Result<LinkInput, InputError>) {
+fn add_found(
+    alloc: Global,
+    line: &mut String,
+    shown: Shown,
+    link: &Result<LinkInput, InputError>,
+) -> Result<(), AllocError> {
     match link {
         Ok(link) => add_shown(alloc, line, shown, link),
         Err(error) => write!(line, "no link: {error}"),
@@ -39,7 +46,12 @@ fn add_found(alloc: Global, line: &mut Line, shown: Shown, link: &Result<LinkInp
 }
 
 /// Adds what is answered of what a text stands for.
-fn add_of(alloc: Global, line: &mut Line, asked: Asked, link: &Result<LinkInput, InputError>) {
+fn add_of(
+    alloc: Global,
+    line: &mut String,
+    asked: Asked,
+    link: &Result<LinkInput, InputError>,
+) -> Result<(), AllocError> {
     match asked {
         Asked::Outcome => add_result(line, link),
         Asked::Of(shown) | Asked::OfHandMade(shown) | Asked::OfCrowded(shown) => {
@@ -48,8 +60,51 @@ fn add_of(alloc: Global, line: &mut Line, asked: Asked, link: &Result<LinkInput,
     }
 }
 
-impl<R> Asks<R> for Asked {
-    fn tell(&self, _rt: &R, alloc: Global, line: &mut Line, text: &str) {
-        add_of(alloc, line, *self, &link_of(alloc, *self, text))
+/// Adds what is answered.
+fn add_answer(
+    alloc: Global,
+    line: &mut String,
+    asked: Asked,
+    text: &str,
+) -> Result<(), AllocError> {
+    let link = link_of(alloc, asked, text);
+    add_of(alloc, line, asked, &link)
+}
+
+/// What is answered to a row.
+fn answer(alloc: Global, asked: Asked, row: Row) -> Result<String, AllocError> {
+    let text = row.text(alloc)?;
+    let mut line = String::new(alloc);
+    add_answer(alloc, &mut line, asked, text.as_str())?;
+    Ok(line)
+}
+
+/// Wants this text of a row with this front.
+pub fn expect_answer(rt: &impl Abort, front: &str, found: &str, want: &str) {
+    assert_eq!(rt; found, want, "for {front}");
+}
+
+/// Wants a row's answer.
+fn expect_row(rt: &impl Abort, alloc: Global, asked: Asked, row: Row) -> Result<(), Fail> {
+    let line = answer(alloc, asked, row)?;
+    expect_answer(rt, row.front, line.as_str(), row.want);
+    Ok(())
+}
+
+/// Wants each row's answer.
+pub fn expect_rows(
+    rt: &impl Abort,
+    alloc: Global,
+    asked: Asked,
+    rows: &'static str,
+) -> Result<(), Fail> {
+    for row in rows_of(alloc, rows)? {
+        expect_row(rt, alloc, asked, row)?;
     }
+    Ok(())
+}
+
+/// Wants this text.
+pub fn expect_text(rt: &impl Abort, found: &str, want: &str) {
+    assert_eq!(rt; found, want);
 }

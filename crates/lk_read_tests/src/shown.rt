@@ -5,8 +5,8 @@ use crate::look_ups::{add_files, add_members, add_names, add_symbols};
 use crate::plans::{add_insides, add_sections};
 use crate::reading::summary::{add_groups, add_options, add_plan};
 use lk_link::LinkInput;
-use lk_test_rows::Line;
-use std::alloc::Global;
+use lk_test_rows::add;
+use std::alloc::{AllocError, Global};
 
 /// What a line tells.
 #[derive(Clone, Copy)]
@@ -30,7 +30,12 @@ pub enum Shown {
 }
 
 /// Adds what is asked for.
-pub fn add_shown(alloc: Global, line: &mut Line, shown: Shown, link: &LinkInput) {
+pub fn add_shown(
+    alloc: Global,
+    line: &mut String,
+    shown: Shown,
+    link: &LinkInput,
+) -> Result<(), AllocError> {
     match shown {
         Shown::Options => add_options(line, &link.options),
         Shown::Plan => add_plan(line, &link.plan),
@@ -40,7 +45,7 @@ pub fn add_shown(alloc: Global, line: &mut Line, shown: Shown, link: &LinkInput)
         Shown::Files => add_files(line, &link.groups),
         Shown::Members => add_members(line, &link.groups),
         Shown::Names => add_names(line, &link.options),
-        Shown::Base => line.add("base", &link.plan.base.as_number()),
+        Shown::Base => add(line, "base", &link.plan.base.as_number()),
         Shown::Sections => add_sections(line, &link.plan),
         Shown::Insides => add_insides(alloc, line, &link.plan),
     }

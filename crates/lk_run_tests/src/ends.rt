@@ -1,6 +1,5 @@
 //! Ends of runs, as rows and reports tell them.
 
-use lk_test_rows::Line;
 use std::alloc::{AllocError, Global};
 use std::str;
 
@@ -23,14 +22,6 @@ pub fn told_end(alloc: Global, status: Option<u8>, written: &[u8]) -> Result<Str
     match status {
         Some(code) => format!(in alloc; "{code} {text}"),
         None => format!(in alloc; "no end"),
-    }
-}
-
-/// Adds a text that is made, or notes that memory ran out for it.
-pub fn add_text(line: &mut Line, made: &Result<String, AllocError>) {
-    match made {
-        Ok(text) => line.push_str(text.as_str()),
-        Err(_) => line.run_out(),
     }
 }
 

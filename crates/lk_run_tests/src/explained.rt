@@ -1,7 +1,7 @@
 //! Why sections are kept, as runs tell it.
 
 use crate::rows::{Asked, expect_rows};
-use lk_test_rows::Failed;
+use std::test::Fail;
 
 /// What can't be read; links that are past a limit, one of which breaks a rule too, and one that breaks a rule; one of which only the layout is refused; a section that refers to a symbol at a second
 /// one, and a third that isn't reached; the members of a section group.
@@ -28,6 +28,6 @@ why 1 0 3 => ends "0 why 1 0 3\nsection 1 0 0\nsection 1 0 2\nsymbol 0\nsection 
 "#;
 
 #[test]
-fn runs_tell_why_sections_are_kept(rt: HostRuntime) -> Result<(), Failed> {
-    expect_rows(&rt, rt.alloc(), &Asked::Ends, EXPLAINED)
+fn runs_tell_why_sections_are_kept(rt: HostRuntime) -> Result<(), Fail> {
+    expect_rows(&rt, rt.alloc(), Asked::Ends, EXPLAINED)
 }

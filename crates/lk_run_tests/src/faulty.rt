@@ -4,10 +4,11 @@ use crate::ends::{ROOM, words_of};
 use crate::rows::{Asked, expect_rows};
 use lk_link::NoGate;
 use lk_run::{MemorySink, MemorySource, Status, run};
-use lk_test_rows::{Failed, Line};
+use lk_test_rows::add;
 use std::alloc::{AllocError, Global};
 use std::str;
 use std::sync::Wait;
+use std::test::Fail;
 use std::thread::Threads;
 
 /// More calls than any run here makes.
@@ -128,76 +129,65 @@ fn cuts(
     Ok(trial.input.len())
 }
 
-/// How a run ends whose source gives one byte with each call and whose sink takes at most so many, and the sink.
-fn slow_run(
+/// Adds how a run ends whose source gives and whose sink takes one byte with each call, and the text that was taken; gives that text.
+fn add_slow(
     rt: &(impl Threads + Wait + Sync),
     alloc: Global,
+    line: &mut String,
     trial: &Trial<'_>,
-    most: usize,
-) -> Result<(Status, MemorySink), AllocError> {
+    report: &mut Vec<u8>,
+) -> Result<(), AllocError> {
     let mut source = slow_source(alloc, trial.input.as_bytes(), Vec::new(alloc))?;
-    let mut sink = MemorySink::new(alloc, ROOM, most, Vec::new(alloc))?;
+    let mut sink = MemorySink::new(alloc, ROOM, 1, Vec::new(alloc))?;
     let status = ended_over(rt, alloc, trial.words, &mut source, &mut sink)?;
-    Ok((status, sink))
-}
-
-/// Adds how a run ended, and the text that was taken.
-fn add_taken(line: &mut Line, word: &str, status: Status, sink: &MemorySink) {
-    line.add(word, &(status.code(), str::from_utf8(sink.written())))
+    report.extend_from_slice(sink.written())?;
+    add(
+        line,
+        "slow",
+        &(status.code(), str::from_utf8(sink.written())),
+    )
 }
 
 /// Adds how a run ends whose sink takes nothing, and what it has taken.
-fn add_full(rt: &(impl Threads + Wait + Sync), alloc: Global, line: &mut Line, trial: &Trial<'_>) {
-    match slow_run(rt, alloc, trial, 0) {
-        Ok((status, sink)) => add_taken(line, "full", status, &sink),
-        Err(_) => line.run_out(),
-    }
-}
-
-/// Adds how the other runs over such devices end, where one that meets no fault writes this report.
-fn add_failing(
+fn add_full(
     rt: &(impl Threads + Wait + Sync),
     alloc: Global,
-    line: &mut Line,
+    line: &mut String,
     trial: &Trial<'_>,
-    report: &[u8],
-) {
-    add_full(rt, alloc, line, trial);
-    line.add_made("reads", &failing_reads(rt, alloc, trial));
-    line.add_made("writes", &failing_writes(rt, alloc, trial, report));
-    line.add_made("cuts", &cuts(rt, alloc, trial))
-}
-
-/// Adds how a run ends whose source gives and whose sink takes one byte with each call, and the text that was taken; and how the others
-/// end.
-fn add_trial(rt: &(impl Threads + Wait + Sync), alloc: Global, line: &mut Line, trial: &Trial<'_>) {
-    match slow_run(rt, alloc, trial, 1) {
-        Ok((status, sink)) => {
-            add_taken(line, "slow", status, &sink);
-            add_failing(rt, alloc, line, trial, sink.written())
-        }
-        Err(_) => line.run_out(),
-    }
+) -> Result<(), AllocError> {
+    let mut source = slow_source(alloc, trial.input.as_bytes(), Vec::new(alloc))?;
+    let mut sink = MemorySink::new(alloc, ROOM, 0, Vec::new(alloc))?;
+    let status = ended_over(rt, alloc, trial.words, &mut source, &mut sink)?;
+    add(
+        line,
+        "full",
+        &(status.code(), str::from_utf8(sink.written())),
+    )
 }
 
 /// Adds how runs over such devices end, with the words before the first colon of a row over what is behind it.
 pub fn add_faulty_runs(
     rt: &(impl Threads + Wait + Sync),
     alloc: Global,
-    line: &mut Line,
+    line: &mut String,
     row: &str,
-) {
+) -> Result<(), AllocError> {
     let (words, input) = row.split_once(':').unwrap_or((row, ""));
-    match words_of(alloc, words) {
-        Ok(words) => {
-            let trial = &Trial {
-                words: &words,
-                input: input.trim_start(),
-            };
-            add_trial(rt, alloc, line, trial)
-        }
-        Err(_) => line.run_out(),
-    }
+    let words = words_of(alloc, words)?;
+    let trial = &Trial {
+        words: &words,
+        input: input.trim_start(),
+    };
+    let mut report = Vec::new(alloc);
+    add_slow(rt, alloc, line, trial, &mut report)?;
+    add_full(rt, alloc, line, trial)?;
+    add(line, "reads", &failing_reads(rt, alloc, trial)?)?;
+    add(
+        line,
+        "writes",
+        &failing_writes(rt, alloc, trial, report.as_slice())?,
+    )?;
+    add(line, "cuts", &cuts(rt, alloc, trial)?)
 }
 
 /// Words and a description: how a run ends whose devices move one byte with each call; and one whose sink takes nothing; at how many reads a run
@@ -209,8 +199,8 @@ image 0: {"plan":{"page":1,"sections":[{"attrs":1,"parts":[[1,false]]}],"segment
 "#;
 
 #[test]
-fn faults_of_devices_are_told_at_each_call(rt: HostRuntime) -> Result<(), Failed> {
-    expect_rows(&rt, rt.alloc(), &Asked::Faulty, FAULTY)
+fn faults_of_devices_are_told_at_each_call(rt: HostRuntime) -> Result<(), Fail> {
+    expect_rows(&rt, rt.alloc(), Asked::Faulty, FAULTY)
 }
 
 /// The smallest description.
@@ -224,33 +214,21 @@ fn failing_of(alloc: Global, word: &str) -> Result<Vec<u64>, AllocError> {
     }
 }
 
-/// How a run over the smallest description ends whose source gives 20 bytes with each read and whose sink takes 10 with each
-/// write, where the read and the write of the row's numbers fail; and the sink.
-fn faulty_run(
+/// Adds how a run over the smallest description ends whose source gives 20 bytes with each read and whose sink takes 10 with each
+/// write, where the read and the write of the row's numbers fail; and what was taken.
+pub fn add_faulty_run(
     rt: &(impl Threads + Wait + Sync),
     alloc: Global,
+    line: &mut String,
     row: &str,
-) -> Result<(Status, MemorySink), AllocError> {
+) -> Result<(), AllocError> {
     let (read, write) = row.split_once(' ').unwrap_or((row, ""));
     let input = SMALLEST.as_bytes().to_vec(alloc)?;
     let mut source = MemorySource::new(input, 20, failing_of(alloc, read)?);
     let mut sink = MemorySink::new(alloc, ROOM, 10, failing_of(alloc, write)?)?;
     let words = words_of(alloc, "layout 0")?;
     let status = ended_over(rt, alloc, &words, &mut source, &mut sink)?;
-    Ok((status, sink))
-}
-
-/// Adds how such a run ends, and what was taken.
-pub fn add_faulty_run(
-    rt: &(impl Threads + Wait + Sync),
-    alloc: Global,
-    line: &mut Line,
-    row: &str,
-) {
-    match faulty_run(rt, alloc, row) {
-        Ok((status, sink)) => line.add("run", &(status, str::from_utf8(sink.written()))),
-        Err(_) => line.run_out(),
-    }
+    add(line, "run", &(status, str::from_utf8(sink.written())))
 }
 
 /// Which read and which write fails: how a run over the smallest description ends, and what was taken. Where both fail, the
@@ -264,6 +242,6 @@ const RUNS: &str = r#"
 "#;
 
 #[test]
-fn faults_of_devices_are_named(rt: HostRuntime) -> Result<(), Failed> {
-    expect_rows(&rt, rt.alloc(), &Asked::FaultyRun, RUNS)
+fn faults_of_devices_are_named(rt: HostRuntime) -> Result<(), Fail> {
+    expect_rows(&rt, rt.alloc(), Asked::FaultyRun, RUNS)
 }

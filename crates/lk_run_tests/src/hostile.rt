@@ -2,7 +2,7 @@
 
 use crate::rows::{Asked, expect_rows};
 use crate::runs::{expect_reports, expect_reports_by_workers};
-use lk_test_rows::Failed;
+use std::test::Fail;
 
 /// Those that are laid out all the same, with their reports.
 const REPORTED: &str =
@@ -37,12 +37,12 @@ entry -
 end"#;
 
 #[test]
-fn what_can_be_laid_out_is(rt: HostRuntime) -> Result<(), Failed> {
+fn what_can_be_laid_out_is(rt: HostRuntime) -> Result<(), Fail> {
     expect_reports(&rt, rt.alloc(), REPORTED)
 }
 
 #[test]
-fn what_can_be_is_laid_out_by_workers(rt: HostRuntime) -> Result<(), Failed> {
+fn what_can_be_is_laid_out_by_workers(rt: HostRuntime) -> Result<(), Fail> {
     expect_reports_by_workers(&rt, rt.alloc(), REPORTED)
 }
 
@@ -66,11 +66,11 @@ const REFUSED: &str = r#"
 "#;
 
 #[test]
-fn what_cannot_is_refused(rt: HostRuntime) -> Result<(), Failed> {
-    expect_rows(&rt, rt.alloc(), &Asked::Run, REFUSED)
+fn what_cannot_is_refused(rt: HostRuntime) -> Result<(), Fail> {
+    expect_rows(&rt, rt.alloc(), Asked::Run, REFUSED)
 }
 
 #[test]
-fn it_is_refused_by_workers(rt: HostRuntime) -> Result<(), Failed> {
-    expect_rows(&rt, rt.alloc(), &Asked::RunByWorkers, REFUSED)
+fn it_is_refused_by_workers(rt: HostRuntime) -> Result<(), Fail> {
+    expect_rows(&rt, rt.alloc(), Asked::RunByWorkers, REFUSED)
 }

@@ -1,7 +1,7 @@
 //! Images, as runs write them.
 
 use crate::rows::{Asked, expect_rows};
-use lk_test_rows::Failed;
+use std::test::Fail;
 
 /// Three sections with data; a reference to the second; what overlaps, over zeros; debug data; no section; what stands nowhere; merged
 /// strings; what isn't live, output that is linked again, zero-fill data, a moved location, addends that wrap, and no resolution. Then
@@ -38,6 +38,6 @@ const IMAGES: &str = r#"
 "#;
 
 #[test]
-fn runs_write_images(rt: HostRuntime) -> Result<(), Failed> {
-    expect_rows(&rt, rt.alloc(), &Asked::Image, IMAGES)
+fn runs_write_images(rt: HostRuntime) -> Result<(), Fail> {
+    expect_rows(&rt, rt.alloc(), Asked::Image, IMAGES)
 }

@@ -1,7 +1,7 @@
 //! Maps, as runs check them.
 
 use crate::rows::{Asked, expect_rows};
-use lk_test_rows::Failed;
+use std::test::Fail;
 
 /// Texts that are no map; maps that are good, of which the first has nothing in it; the report of three sections among them; and each fault of one.
 const CHECKED: &str = r#"
@@ -20,6 +20,6 @@ check: layout/section 0 index 0 mem 0x1000 8 file 0x0 8 align 8 lma 0x1000 attrs
 "#;
 
 #[test]
-fn runs_check_maps(rt: HostRuntime) -> Result<(), Failed> {
-    expect_rows(&rt, rt.alloc(), &Asked::Ends, CHECKED)
+fn runs_check_maps(rt: HostRuntime) -> Result<(), Fail> {
+    expect_rows(&rt, rt.alloc(), Asked::Ends, CHECKED)
 }

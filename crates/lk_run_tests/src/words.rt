@@ -1,17 +1,18 @@
 //! Words, statuses, and runs whose words or input are no good.
 
-use crate::ends::{add_text, words_of};
+use crate::ends::words_of;
 use crate::rows::{Asked, expect_rows};
-use crate::runs::{told, told_by_workers};
+use crate::runs::{expect_text, told, told_by_workers};
 use lk_run::{Status, SureSink, SureSource, run_alone};
-use lk_test_rows::{Failed, Line};
+use lk_test_rows::add;
 use std::alloc::{AllocError, Global};
 use std::sync::Wait;
+use std::test::Fail;
 use std::thread::Threads;
 
 #[test]
-fn statuses_have_their_numbers(rt: HostRuntime) -> Result<(), Failed> {
-    let mut line = Line::new(rt.alloc());
+fn statuses_have_their_numbers(rt: HostRuntime) -> Result<(), Fail> {
+    let mut line = String::new(rt.alloc());
     for status in [
         Status::Done,
         Status::Refused,
@@ -21,14 +22,15 @@ fn statuses_have_their_numbers(rt: HostRuntime) -> Result<(), Failed> {
         Status::WriteFault,
         Status::NoMemory,
     ] {
-        line.add("status", &(status, status.code()));
+        add(&mut line, "status", &(status, status.code()))?;
     }
-    line.expect(
+    expect_text(
         &rt,
-        "all",
+        line.as_str(),
         "status (Done, 0) status (Refused, 1) status (Usage, 2) status (Unreadable, 3) \
         status (ReadFault, 4) status (WriteFault, 5) status (NoMemory, 6)",
-    )
+    );
+    Ok(())
 }
 
 /// Lines of words; of these only the first and the last seven are commands.
@@ -89,8 +91,8 @@ image 64 => command Some(Image(64)) ends "no end"
 "#;
 
 #[test]
-fn other_words_are_no_command(rt: HostRuntime) -> Result<(), Failed> {
-    expect_rows(&rt, rt.alloc(), &Asked::Words, WORDS)
+fn other_words_are_no_command(rt: HostRuntime) -> Result<(), Fail> {
+    expect_rows(&rt, rt.alloc(), Asked::Words, WORDS)
 }
 
 /// The smallest description.
@@ -111,34 +113,33 @@ image 2 => alone (None, 54, 0) workers "0 no line"
 image 64 => alone (None, 54, 0) workers "0 no line"
 "#;
 
-/// How a run on the caller's own thread ends, with the bytes that its source has left and its sink took.
-fn ended_alone(
-    alloc: Global,
-    words: &[String],
-) -> Result<(Option<Status>, usize, u64), AllocError> {
+/// Adds how a run on the caller's own thread ends.
+fn add_alone(alloc: Global, line: &mut String, words: &[String]) -> Result<(), AllocError> {
     let mut source = SureSource::new(SMALLEST.as_bytes().to_vec(alloc)?);
     let mut sink = SureSink::new();
     let status = run_alone(alloc, words, &mut source, &mut sink);
-    Ok((status, source.left().len(), sink.count()))
-}
-
-/// Adds how runs with these words end.
-fn add_runs(rt: &(impl Threads + Wait + Sync), alloc: Global, line: &mut Line, words: &[String]) {
-    line.add_made("alone", &ended_alone(alloc, words));
-    line.add_made("workers", &told_by_workers(rt, alloc, words, SMALLEST))
+    add(line, "alone", &(status, source.left().len(), sink.count()))
 }
 
 /// Adds how runs with the words of a row end.
-pub fn add_both_runs(rt: &(impl Threads + Wait + Sync), alloc: Global, line: &mut Line, row: &str) {
-    match words_of(alloc, row) {
-        Ok(words) => add_runs(rt, alloc, line, &words),
-        Err(_) => line.run_out(),
-    }
+pub fn add_both_runs(
+    rt: &(impl Threads + Wait + Sync),
+    alloc: Global,
+    line: &mut String,
+    row: &str,
+) -> Result<(), AllocError> {
+    let words = words_of(alloc, row)?;
+    add_alone(alloc, line, &words)?;
+    add(
+        line,
+        "workers",
+        &told_by_workers(rt, alloc, &words, SMALLEST)?,
+    )
 }
 
 #[test]
-fn the_number_of_workers_changes_nothing(rt: HostRuntime) -> Result<(), Failed> {
-    expect_rows(&rt, rt.alloc(), &Asked::BothRuns, WORKERS)
+fn the_number_of_workers_changes_nothing(rt: HostRuntime) -> Result<(), Fail> {
+    expect_rows(&rt, rt.alloc(), Asked::BothRuns, WORKERS)
 }
 
 /// Two groups of a hundred units each, of which two workers take one in turn.
@@ -147,16 +148,13 @@ const LOCK_STEP: &str = r#"
 "#;
 
 #[test]
-fn two_workers_run_in_lock_step(rt: HostRuntime) -> Result<(), Failed> {
-    expect_rows(&rt, rt.alloc(), &Asked::LockStep, LOCK_STEP)
+fn two_workers_run_in_lock_step(rt: HostRuntime) -> Result<(), Fail> {
+    expect_rows(&rt, rt.alloc(), Asked::LockStep, LOCK_STEP)
 }
 
 /// Adds how a run with the words of a row ends, whose source is empty.
-pub fn add_generated(alloc: Global, line: &mut Line, row: &str) {
-    match words_of(alloc, row) {
-        Ok(words) => add_text(line, &told(alloc, &words, "")),
-        Err(_) => line.run_out(),
-    }
+pub fn add_generated(alloc: Global, line: &mut String, row: &str) -> Result<(), AllocError> {
+    line.push_str(told(alloc, &words_of(alloc, row)?, "")?.as_str())
 }
 
 /// Words of generated links, and the lines that are told of these.
@@ -212,8 +210,8 @@ gen 15 200 => 0 gen 15 200 live 44 of 400 merged 130 end 0x401100
 "#;
 
 #[test]
-fn generated_links_are_laid_out(rt: HostRuntime) -> Result<(), Failed> {
-    expect_rows(&rt, rt.alloc(), &Asked::Generated, GENERATED)
+fn generated_links_are_laid_out(rt: HostRuntime) -> Result<(), Fail> {
+    expect_rows(&rt, rt.alloc(), Asked::Generated, GENERATED)
 }
 
 /// Inputs that can't be read, and how runs over them end.
@@ -227,6 +225,6 @@ const UNREADABLE: &str = r#"
 "#;
 
 #[test]
-fn inputs_that_cannot_be_read_are_told(rt: HostRuntime) -> Result<(), Failed> {
-    expect_rows(&rt, rt.alloc(), &Asked::Run, UNREADABLE)
+fn inputs_that_cannot_be_read_are_told(rt: HostRuntime) -> Result<(), Fail> {
+    expect_rows(&rt, rt.alloc(), Asked::Run, UNREADABLE)
 }

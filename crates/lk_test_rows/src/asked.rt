@@ -28,7 +28,10 @@ fn expect_row<R: Eprint, A: Asks<R>>(
 ) -> Result<(), Failed> {
     let mut line = Line::new(alloc);
     tell_row(rt, alloc, asked, &mut line, row);
-    line.expect_row(rt, alloc, row)
+    match row.wanted(alloc) {
+        Ok(want) => line.expect(rt, row.front, want.as_str()),
+        Err(_) => Err(Failed::NoMemory),
+    }
 }
 
 /// Wants the answers of these rows.

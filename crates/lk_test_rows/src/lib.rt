@@ -11,4 +11,4 @@ pub use asked::{Asks, expect_rows};
 pub use line::{Failed, Line};
 pub use lock_step::LockStep;
 pub use made::{groups_of, sized_groups, with_groups};
-pub use rows::{Frame, NO_FRAME, Row, frame_of, framed, rows_of};
+pub use rows::{Frame, NO_FRAME, Row, add, frame_of, framed, rows_of};

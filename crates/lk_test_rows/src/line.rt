@@ -1,6 +1,5 @@
 //! A line of text that tells things, and that it is the wanted one.
 
-use crate::rows::Row;
 use std::alloc::Global;
 use std::fmt::{Debug, Display};
 use std::io::Eprint;
@@ -94,23 +93,6 @@ impl Line {
         } else {
             let _ = rt.eprintln(format_args!("for {of}\n  told: {told:?}\nwanted: {want:?}"));
             Err(Failed::Told)
-        }
-    }
-
-    /// Wants the answer of a row.
-    pub fn expect_row<R: Eprint>(&self, rt: &R, alloc: Global, row: Row) -> Result<(), Failed> {
-        match row.wanted(alloc) {
-            Ok(want) => self.expect(rt, row.front, want.as_str()),
-            Err(_) => Err(Failed::NoMemory),
-        }
-    }
-
-    /// Wants what another line tells, told for that.
-    pub fn expect_as<R: Eprint>(&self, rt: &R, of: &str, other: &Line) -> Result<(), Failed> {
-        if other.is_whole {
-            self.expect(rt, of, other.text.as_str())
-        } else {
-            Err(Failed::NoMemory)
         }
     }
 }

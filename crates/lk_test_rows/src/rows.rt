@@ -7,6 +7,7 @@
 //! between. Rows that begin with `#` are remarks.
 
 use std::alloc::{AllocError, Global};
+use std::fmt::Debug;
 
 /// Adds so many of an item as the front of `65 of X` or `65 times X` tells, with this between them.
 fn push_items(text: &mut String, count: &str, between: &str, item: &str) -> Result<(), AllocError> {
@@ -110,4 +111,12 @@ pub fn rows_of(alloc: Global, text: &'static str) -> Result<Vec<Row>, AllocError
         }
     }
     Ok(rows)
+}
+
+/// Adds a word and a value to a line, behind a space where it isn't empty.
+pub fn add<T: Debug>(line: &mut String, word: &str, value: &T) -> Result<(), AllocError> {
+    if !line.is_empty() {
+        line.push(' ')?;
+    }
+    write!(line, "{word} {value:?}")
 }

@@ -25,9 +25,10 @@ use lk_place::{
     OutputRecordLayout, Placed, SegmentFileLayout, SegmentLayout, SymbolPositions,
     compute_layout_sections, compute_segment_layout, merge_secondary_parts,
 };
-use lk_test_rows::{Failed, Line};
+use lk_test_rows::add;
 use std::alloc::{AllocError, Global};
 use std::marker::Model;
+use std::test::Fail;
 
 /// Edges.
 const EDGES: &str = r#"
@@ -190,7 +191,7 @@ fn first_values(
 }
 
 /// Adds a number, if there is one.
-fn add_number(line: &mut Line, number: Option<u64>) {
+fn add_number(line: &mut String, number: Option<u64>) -> Result<(), AllocError> {
     match number {
         Some(number) => write!(line, " {number}"),
         None => line.push_str(" -"),
@@ -198,73 +199,76 @@ fn add_number(line: &mut Line, number: Option<u64>) {
 }
 
 /// Adds what the symbols of a file stand at.
-fn add_file(line: &mut Line, file: &InputFile, edges: &Edges<'_>) {
+fn add_file(line: &mut String, file: &InputFile, edges: &Edges<'_>) -> Result<(), AllocError> {
     for symbol in file.symbols.as_slice() {
-        add_number(line, edges.value(&symbol.at));
+        add_number(line, edges.value(&symbol.at))?;
     }
+    Ok(())
 }
 
 /// Adds what all symbols stand at.
-fn add_edges(line: &mut Line, link: &LinkInput, edges: &Edges<'_>) {
-    line.push_str("edges");
+fn add_edges(line: &mut String, link: &LinkInput, edges: &Edges<'_>) -> Result<(), AllocError> {
+    line.push_str("edges")?;
     for files in link.groups.as_slice() {
         for file in files.as_slice() {
-            add_file(line, file, edges);
+            add_file(line, file, edges)?;
         }
     }
+    Ok(())
 }
 
 /// Adds values.
-fn add_values(line: &mut Line, values: &Values) {
-    line.push_str(" values");
+fn add_values(line: &mut String, values: &Values) -> Result<(), AllocError> {
+    line.push_str(" values")?;
     for value in &values.values {
-        add_number(line, *value);
+        add_number(line, *value)?;
     }
+    Ok(())
 }
 
 /// Adds what symbols are worth behind all redirects, or the refusal.
-fn add_redirected(line: &mut Line, placed: &PlacedLink<'_>, values: &mut Values)
+fn add_redirected(
+    line: &mut String,
+    placed: &PlacedLink<'_>,
+    values: &mut Values,
+) -> Result<(), AllocError>
     requires { IsWellFormed placed.now.link.now }
 {
     match evaluate_redirects(placed, values) {
         Ok(()) => add_values(line, values),
-        Err(error) => line.add("refused", &error),
+        Err(error) => add(line, "refused", &error),
     }
 }
 
 /// Adds edges, and what comes of redirects, by where all stands.
 fn add_by_edges(
     alloc: Global,
-    line: &mut Line,
+    line: &mut String,
     all: &PlacedLink<'_>,
     live: &Live,
     edges: &Edges<'_>,
-)
+) -> Result<(), AllocError>
     requires { IsWellFormed all.now.link.now }
 {
-    add_edges(line, all.link, edges);
-    match first_values(alloc, all.link, live, edges) {
-        Ok(mut values) => add_redirected(line, all, &mut values),
-        Err(_) => line.run_out(),
-    }
+    add_edges(line, all.link, edges)?;
+    let mut values = first_values(alloc, all.link, live, edges)?;
+    add_redirected(line, all, &mut values)
 }
 
 /// The same by these records, with their secondaries.
 fn add_by_segments(
     alloc: Global,
-    line: &mut Line,
+    line: &mut String,
     all: &PlacedLink<'_>,
     live: &Live,
     segments: &[SegmentLayout],
-)
+) -> Result<(), AllocError>
     requires good { IsWellFormed all.now.link.now }
     requires each { length all.now.sections.now ≡ length all.now.link.now.plan.sections }
     requires below { EndsBelow all.now.link.now.plan segments.now }
 {
-    match &edges_of(alloc, all.link, all.sections, segments) {
-        Ok(edges) => add_by_edges(alloc, line, all, live, edges),
-        Err(_) => line.run_out(),
-    }
+    let edges = edges_of(alloc, all.link, all.sections, segments)?;
+    add_by_edges(alloc, line, all, live, &edges)
 }
 
 /// Those of these numbers that are numbers of segments.
@@ -290,80 +294,58 @@ fn filled(alloc: Global, records: &[OutputRecordLayout]) -> Result<Vec<bool>, Al
     Ok(marks)
 }
 
-/// The same by what these segments span, where sections with these marks are emitted.
-fn add_by_marks(
+/// The same by what these segments span.
+fn add_by_active(
     alloc: Global,
-    line: &mut Line,
+    line: &mut String,
     all: &PlacedLink<'_>,
     live: &Live,
     active: &[SegmentId],
-    marks: &[bool],
-)
+) -> Result<(), AllocError>
     requires good { IsWellFormed all.now.link.now }
     requires each { length all.now.sections.now ≡ length all.now.link.now.plan.sections }
     requires there { All (λ i. i < length all.now.link.now.plan.segments) active.now }
 {
     segments_end_below();
+    let marks = filled(alloc, all.sections)?;
     let kind = SegmentFileLayout::FromSections;
-    match compute_segment_layout(alloc, all.link, all.sections, marks, active, kind) {
+    match compute_segment_layout(alloc, all.link, all.sections, &marks, active, kind) {
         Ok(layouts) => add_by_segments(alloc, line, all, live, layouts.segments.as_slice()),
-        Err(error) => line.add("refused", &error),
-    }
-}
-
-/// The same by what these segments span.
-fn add_by_active(
-    alloc: Global,
-    line: &mut Line,
-    all: &PlacedLink<'_>,
-    live: &Live,
-    active: &[SegmentId],
-)
-    requires good { IsWellFormed all.now.link.now }
-    requires each { length all.now.sections.now ≡ length all.now.link.now.plan.sections }
-    requires there { All (λ i. i < length all.now.link.now.plan.segments) active.now }
-{
-    match &filled(alloc, all.sections) {
-        Ok(marks) => add_by_marks(alloc, line, all, live, active, marks),
-        Err(_) => line.run_out(),
+        Err(error) => add(line, "refused", &error),
     }
 }
 
 /// The same by records of sections and these with their secondaries.
 fn add_by_records(
     alloc: Global,
-    line: &mut Line,
+    line: &mut String,
     all: &PlacedLink<'_>,
     live: &Live,
     given: Given<'_>,
-)
+) -> Result<(), AllocError>
     requires { IsWellFormed all.now.link.now }
 {
     if all.sections.len() != all.link.plan.sections.len() {
-        line.push_str("other sections");
-        return;
+        return line.push_str("other sections");
     }
-    match segments_of(alloc, &all.link.plan, given.active) {
-        Ok(active) => add_by_active(alloc, line, all, live, &active),
-        Err(_) => line.run_out(),
-    }
+    let active = segments_of(alloc, &all.link.plan, given.active)?;
+    add_by_active(alloc, line, all, live, &active)
 }
 
 /// The same by what is placed.
 fn add_placed(
     alloc: Global,
-    line: &mut Line,
+    line: &mut String,
     link: &LinkInput,
     live: &Live,
     given: Given<'_>,
     placed: &Placed,
-)
+) -> Result<(), AllocError>
     requires { IsWellFormed link.now }
 {
     let sections = placed.sections.as_slice();
     if sections.len() != link.plan.sections.len() {
-        line.push_str("other sections");
-        return;
+        return line.push_str("other sections");
     }
     match merge_secondary_parts(alloc, link, sections) {
         Ok(merged) => {
@@ -377,27 +359,37 @@ fn add_placed(
             };
             add_by_records(alloc, line, &all, live, given)
         }
-        Err(error) => line.add("refused", &error),
+        Err(error) => add(line, "refused", &error),
     }
 }
 
 /// The same by where the walk puts all.
-fn add_walked(alloc: Global, line: &mut Line, link: &LinkInput, live: &Live, given: Given<'_>)
+fn add_walked(
+    alloc: Global,
+    line: &mut String,
+    link: &LinkInput,
+    live: &Live,
+    given: Given<'_>,
+) -> Result<(), AllocError>
     requires { IsWellFormed link.now }
 {
     if given.sizes.len() != link.plan.sections.parts().len() {
-        line.push_str("other parts");
-        return;
+        return line.push_str("other parts");
     }
     let nowhere = SymbolPositions::new(List::new(alloc));
     match compute_layout_sections(alloc, link, given.sizes, &nowhere, given.headers, &Small64) {
         Ok(placed) => add_placed(alloc, line, link, live, given, &placed),
-        Err(error) => line.add("refused", &error),
+        Err(error) => add(line, "refused", &error),
     }
 }
 
 /// The same of a link that is well formed.
-fn add_live(alloc: Global, line: &mut Line, link: &LinkInput, given: Given<'_>)
+fn add_live(
+    alloc: Global,
+    line: &mut String,
+    link: &LinkInput,
+    given: Given<'_>,
+) -> Result<(), AllocError>
     requires { IsWellFormed link.now }
 {
     match traverse_alone(alloc, link) {
@@ -407,7 +399,12 @@ fn add_live(alloc: Global, line: &mut Line, link: &LinkInput, given: Given<'_>)
 }
 
 /// The same of any link.
-fn add_checked(alloc: Global, line: &mut Line, link: &LinkInput, given: Given<'_>) {
+fn add_checked(
+    alloc: Global,
+    line: &mut String,
+    link: &LinkInput,
+    given: Given<'_>,
+) -> Result<(), AllocError> {
     match check_link(link) {
         Ok(()) => add_live(alloc, line, link, given),
         Err(fault) => write!(line, "no good link: {fault}"),
@@ -417,10 +414,10 @@ fn add_checked(alloc: Global, line: &mut Line, link: &LinkInput, given: Given<'_
 /// The same of a link that there is.
 fn add_found(
     alloc: Global,
-    line: &mut Line,
+    line: &mut String,
     link: &Result<LinkInput, InputError>,
     given: Given<'_>,
-) {
+) -> Result<(), AllocError> {
     match link {
         Ok(link) => add_checked(alloc, line, link, given),
         Err(error) => write!(line, "no link: {error}"),
@@ -428,7 +425,12 @@ fn add_found(
 }
 
 /// The same of the link that a text stands for.
-fn add_read(alloc: Global, line: &mut Line, text: &str, given: Given<'_>) {
+fn add_read(
+    alloc: Global,
+    line: &mut String,
+    text: &str,
+    given: Given<'_>,
+) -> Result<(), AllocError> {
     let link = read_link(alloc, text.as_bytes());
     add_found(alloc, line, &link, given)
 }
@@ -442,62 +444,33 @@ fn listed(alloc: Global, word: &str) -> Result<Vec<u64>, AllocError> {
     }
 }
 
-/// The bytes of the headers and of all parts, the numbers of the active segments, and a description.
-#[derive(Drop)]
-struct Told {
-    headers: u64,
-    sizes: Vec<u64>,
-    active: Vec<u64>,
-    text: String,
-}
-
-/// What a row tells.
-fn told_of(alloc: Global, row: &str) -> Result<Told, AllocError> {
+/// Adds edges, and what comes of redirects, by what a row tells.
+pub fn add_edged(alloc: Global, line: &mut String, row: &str) -> Result<(), AllocError> {
     let (told, text) = row.split_once(" {").unwrap_or((row, ""));
     let mut words = told.split_whitespace();
     let headers = words.next().unwrap_or("").parse::<u64>().unwrap_or(0);
     let sizes = listed(alloc, words.next().unwrap_or("-"))?;
     let active = listed(alloc, words.next().unwrap_or("-"))?;
     let text = format!(in alloc; "{{{text}")?;
-    Ok(Told {
+    let given = Given {
         headers,
-        sizes,
-        active,
-        text,
-    })
-}
-
-/// Adds edges, and what comes of redirects, by what a row tells.
-pub fn add_edged(alloc: Global, line: &mut Line, row: &str) {
-    match &told_of(alloc, row) {
-        Ok(told) => {
-            let given = Given {
-                headers: told.headers,
-                sizes: &told.sizes,
-                active: &told.active,
-            };
-            add_read(alloc, line, told.text.as_str(), given)
-        }
-        Err(_) => line.run_out(),
-    }
+        sizes: &sizes,
+        active: &active,
+    };
+    add_read(alloc, line, text.as_str(), given)
 }
 
 #[test]
-fn symbols_stand_at_edges(rt: HostRuntime) -> Result<(), Failed> {
-    expect_rows(
-        &rt,
-        rt.alloc(),
-        &Asked::Placement(OfPlacement::Edged),
-        EDGES,
-    )
+fn symbols_stand_at_edges(rt: HostRuntime) -> Result<(), Fail> {
+    expect_rows(&rt, rt.alloc(), Asked::Placement(OfPlacement::Edged), EDGES)
 }
 
 #[test]
-fn redirects_come_to_their_values(rt: HostRuntime) -> Result<(), Failed> {
+fn redirects_come_to_their_values(rt: HostRuntime) -> Result<(), Fail> {
     expect_rows(
         &rt,
         rt.alloc(),
-        &Asked::Placement(OfPlacement::Edged),
+        Asked::Placement(OfPlacement::Edged),
         REDIRECTS,
     )
 }

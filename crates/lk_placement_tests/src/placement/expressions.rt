@@ -15,8 +15,9 @@ use lk_place::{
     evaluate_const, evaluate_early_expression, evaluate_expression, evaluate_regions, first_memory,
     is_plain,
 };
-use lk_test_rows::{Failed, Line};
+use lk_test_rows::add;
 use std::alloc::{AllocError, Global};
+use std::test::Fail;
 
 /// Expressions of numbers, and what they are worth everywhere.
 const NUMBERS: &str = r#"
@@ -183,11 +184,11 @@ const REGIONS: &[(u64, u64)] = &[(256, 8), (0, 18446744073709551615)];
 
 /// Adds what the base is worth while sections are placed, where the last of three isn't.
 fn add_early(
-    line: &mut Line,
+    line: &mut String,
     link: &LinkInput,
     constants: &[Option<Constant>],
     positions: &SymbolPositions,
-)
+) -> Result<(), AllocError>
     requires { AreShallow link.now }
 {
     let placed = [
@@ -206,11 +207,17 @@ fn add_early(
         &placed,
         positions,
     );
-    line.add("early", &value)
+    add(line, "early", &value)
 }
 
 /// Adds what the base is worth when all is placed, as the expression of symbol 2.
-fn add_late(line: &mut Line, word: &str, link: &LinkInput, dot: Option<u64>, values: &[Option<u64>])
+fn add_late(
+    line: &mut String,
+    word: &str,
+    link: &LinkInput,
+    dot: Option<u64>,
+    values: &[Option<u64>],
+) -> Result<(), AllocError>
     requires { AreShallow link.now }
 {
     let sections = [
@@ -221,58 +228,38 @@ fn add_late(line: &mut Line, word: &str, link: &LinkInput, dot: Option<u64>, val
     let own = SymbolId::from_u32(2);
     let base = &link.plan.base;
     let value = evaluate_expression(link, base, own, dot, 120, REGIONS, &sections, values);
-    line.add(word, &value)
-}
-
-/// Adds what the base is worth while sections are placed, by these constants.
-fn add_by_constants(
-    alloc: Global,
-    line: &mut Line,
-    link: &LinkInput,
-    constants: &[Option<Constant>],
-)
-    requires { AreShallow link.now }
-{
-    match &positions(alloc) {
-        Ok(positions) => add_early(line, link, constants, positions),
-        Err(_) => line.run_out(),
-    }
+    add(line, word, &value)
 }
 
 /// Adds what the base is worth while sections are placed.
-fn add_placing(alloc: Global, line: &mut Line, link: &LinkInput)
+fn add_placing(alloc: Global, line: &mut String, link: &LinkInput) -> Result<(), AllocError>
     requires { AreShallow link.now }
 {
-    match &constant_redirects(alloc, link, 120, REGIONS) {
-        Ok(constants) => add_by_constants(alloc, line, link, constants),
-        Err(_) => line.run_out(),
-    }
+    let constants = constant_redirects(alloc, link, 120, REGIONS)?;
+    let positions = positions(alloc)?;
+    add_early(line, link, &constants, &positions)
 }
 
 /// Adds what the base is worth when all is placed, at a location and at none.
-fn add_lates(alloc: Global, line: &mut Line, link: &LinkInput)
+fn add_lates(alloc: Global, line: &mut String, link: &LinkInput) -> Result<(), AllocError>
     requires { AreShallow link.now }
 {
-    match &values(alloc) {
-        Ok(values) => {
-            add_late(line, "late", link, Some(80), values);
-            add_late(line, "nowhere", link, None, values)
-        }
-        Err(_) => line.run_out(),
-    }
+    let values = values(alloc)?;
+    add_late(line, "late", link, Some(80), &values)?;
+    add_late(line, "nowhere", link, None, &values)
 }
 
 /// Adds what the base is worth everywhere, of a link whose expressions aren't too deep.
-fn add_worth(alloc: Global, line: &mut Line, link: &LinkInput)
+fn add_worth(alloc: Global, line: &mut String, link: &LinkInput) -> Result<(), AllocError>
     requires { AreShallow link.now }
 {
-    line.add("const", &evaluate_const(link, &link.plan.base));
-    add_placing(alloc, line, link);
+    add(line, "const", &evaluate_const(link, &link.plan.base))?;
+    add_placing(alloc, line, link)?;
     add_lates(alloc, line, link)
 }
 
 /// Adds what the base is worth everywhere, of a link that is well formed.
-pub fn add_values(alloc: Global, line: &mut Line, link: &LinkInput) {
+pub fn add_values(alloc: Global, line: &mut String, link: &LinkInput) -> Result<(), AllocError> {
     expressions_are_shallow();
     match check_link(link) {
         Ok(()) => add_worth(alloc, line, link),
@@ -280,52 +267,41 @@ pub fn add_values(alloc: Global, line: &mut Line, link: &LinkInput) {
     }
 }
 
-/// Adds these constants, and where memory begins by them.
-fn add_constants(
+/// Adds the constants by these regions, and where memory begins.
+fn add_memory(
     alloc: Global,
-    line: &mut Line,
+    line: &mut String,
     link: &LinkInput,
     regions: &[(u64, u64)],
-    constants: &[Option<Constant>],
-)
+) -> Result<(), AllocError>
     requires shallow { AreShallow link.now }
     requires page { 0 < link.now.plan.page }
 {
-    line.add("constants", &constants);
-    match first_memory(alloc, link, 512, regions, constants) {
-        Ok(memory) => line.add("memory", &memory),
-        Err(error) => line.add("refused", &error),
-    }
-}
-
-/// Adds the constants by these regions, and where memory begins.
-fn add_memory(alloc: Global, line: &mut Line, link: &LinkInput, regions: &[(u64, u64)])
-    requires shallow { AreShallow link.now }
-    requires page { 0 < link.now.plan.page }
-{
-    line.add("regions", &regions);
-    match &constant_redirects(alloc, link, 512, regions) {
-        Ok(constants) => add_constants(alloc, line, link, regions, constants),
-        Err(_) => line.run_out(),
+    add(line, "regions", &regions)?;
+    let constants = constant_redirects(alloc, link, 512, regions)?;
+    add(line, "constants", &constants)?;
+    match first_memory(alloc, link, 512, regions, &constants) {
+        Ok(memory) => add(line, "memory", &memory),
+        Err(error) => add(line, "refused", &error),
     }
 }
 
 /// Adds regions, constants and where memory begins, or the first refusal.
-fn add_begun(alloc: Global, line: &mut Line, link: &LinkInput)
+fn add_begun(alloc: Global, line: &mut String, link: &LinkInput) -> Result<(), AllocError>
     requires good { IsWellFormed link.now }
     requires shallow { AreShallow link.now }
 {
     if link.plan.page == 0 || link.plan.regions.len() > 64 {
-        return;
+        return Ok(());
     }
     match evaluate_regions(alloc, link) {
         Ok(regions) => add_memory(alloc, line, link, regions.as_slice()),
-        Err(error) => line.add("refused", &error),
+        Err(error) => add(line, "refused", &error),
     }
 }
 
 /// Adds the same of a link that is well formed.
-pub fn add_beginning(alloc: Global, line: &mut Line, link: &LinkInput) {
+pub fn add_beginning(alloc: Global, line: &mut String, link: &LinkInput) -> Result<(), AllocError> {
     expressions_are_shallow();
     match check_link(link) {
         Ok(()) => add_begun(alloc, line, link),
@@ -334,49 +310,44 @@ pub fn add_beginning(alloc: Global, line: &mut Line, link: &LinkInput) {
 }
 
 /// Adds whether the plan of a link that is well formed is plain.
-pub fn add_plain(line: &mut Line, link: &LinkInput) {
+pub fn add_plain(line: &mut String, link: &LinkInput) -> Result<(), AllocError> {
     match check_link(link) {
-        Ok(()) => line.add("plain", &is_plain(&link.plan, link.options.output)),
+        Ok(()) => add(line, "plain", &is_plain(&link.plan, link.options.output)),
         Err(_) => line.push_str("no good link"),
     }
 }
 
 #[test]
-fn numbers_are_worth_the_same_everywhere(rt: HostRuntime) -> Result<(), Failed> {
+fn numbers_are_worth_the_same_everywhere(rt: HostRuntime) -> Result<(), Fail> {
     expect_rows(
         &rt,
         rt.alloc(),
-        &Asked::Placement(OfPlacement::Values),
+        Asked::Placement(OfPlacement::Values),
         NUMBERS,
     )
 }
 
 #[test]
-fn operands_are_worth_what_is_known(rt: HostRuntime) -> Result<(), Failed> {
+fn operands_are_worth_what_is_known(rt: HostRuntime) -> Result<(), Fail> {
     expect_rows(
         &rt,
         rt.alloc(),
-        &Asked::Placement(OfPlacement::Values),
+        Asked::Placement(OfPlacement::Values),
         OPERANDS,
     )
 }
 
 #[test]
-fn regions_constants_and_base_come_before_the_first_event(rt: HostRuntime) -> Result<(), Failed> {
+fn regions_constants_and_base_come_before_the_first_event(rt: HostRuntime) -> Result<(), Fail> {
     expect_rows(
         &rt,
         rt.alloc(),
-        &Asked::Placement(OfPlacement::Beginning),
+        Asked::Placement(OfPlacement::Beginning),
         BEGINNINGS,
     )
 }
 
 #[test]
-fn plain_plans_are_told(rt: HostRuntime) -> Result<(), Failed> {
-    expect_rows(
-        &rt,
-        rt.alloc(),
-        &Asked::Placement(OfPlacement::Plain),
-        PLAIN,
-    )
+fn plain_plans_are_told(rt: HostRuntime) -> Result<(), Fail> {
+    expect_rows(&rt, rt.alloc(), Asked::Placement(OfPlacement::Plain), PLAIN)
 }

@@ -17,8 +17,9 @@ use lk_place::{
     assign_section_file_range, compute_segment_alignments, compute_segment_layout,
     layout_section_from_part_layouts, merge_secondary_parts,
 };
-use lk_test_rows::{Failed, Line};
+use lk_test_rows::add;
 use std::alloc::{AllocError, Global};
+use std::test::Fail;
 
 /// Secondaries, joined to their primaries. Sections 0 and 1 stand alone or are primaries, and the others secondary to them.
 const MERGED: &str = r#"
@@ -129,37 +130,57 @@ fn record_of(text: &str) -> OutputRecordLayout {
     fitting_record(memory, file, text).unwrap_or(nothing())
 }
 
+/// Adds a space, unless the line is empty.
+fn add_space(line: &mut String) -> Result<(), AllocError> {
+    if line.is_empty() {
+        Ok(())
+    } else {
+        line.push(' ')
+    }
+}
+
 /// Adds a record.
-fn add_bare(line: &mut Line, record: &OutputRecordLayout) {
+fn add_bare(line: &mut String, record: &OutputRecordLayout) -> Result<(), AllocError> {
     let (memory, bytes) = (record.mem_offset, record.mem_size);
     let (offset, in_file) = (record.file_offset, record.file_size);
     let (alignment, load) = (record.alignment.value(), record.lma_offset);
-    write!(line, "{memory},{bytes},{offset},{in_file},{alignment}");
-    if load != memory {
-        write!(line, ",{load}");
+    write!(line, "{memory},{bytes},{offset},{in_file},{alignment}")?;
+    if load == memory {
+        Ok(())
+    } else {
+        write!(line, ",{load}")
     }
 }
 
 /// Adds a record behind a front.
-fn add_record(line: &mut Line, front: &str, record: &OutputRecordLayout) {
-    line.add_space();
-    line.push_str(front);
+fn add_record(
+    line: &mut String,
+    front: &str,
+    record: &OutputRecordLayout,
+) -> Result<(), AllocError> {
+    add_space(line)?;
+    line.push_str(front)?;
     add_bare(line, record)
 }
 
 /// Adds several records behind a word.
-pub(crate) fn add_records(line: &mut Line, word: &str, records: &[OutputRecordLayout]) {
-    line.add_space();
-    line.push_str(word);
+pub(crate) fn add_records(
+    line: &mut String,
+    word: &str,
+    records: &[OutputRecordLayout],
+) -> Result<(), AllocError> {
+    add_space(line)?;
+    line.push_str(word)?;
     for record in records {
-        add_record(line, "", record);
+        add_record(line, "", record)?;
     }
+    Ok(())
 }
 
 /// Adds the layout of a segment behind its number.
-fn add_segment(line: &mut Line, segment: &SegmentLayout) {
-    line.add_space();
-    write!(line, "{number}:", number = segment.id.as_u32());
+fn add_segment(line: &mut String, segment: &SegmentLayout) -> Result<(), AllocError> {
+    add_space(line)?;
+    write!(line, "{number}:", number = segment.id.as_u32())?;
     add_bare(line, &segment.sizes)
 }
 
@@ -177,13 +198,18 @@ pub enum Spanned {
 }
 
 /// Adds what sections span with their secondaries.
-fn add_merged(alloc: Global, line: &mut Line, link: &LinkInput, records: &[OutputRecordLayout])
+fn add_merged(
+    alloc: Global,
+    line: &mut String,
+    link: &LinkInput,
+    records: &[OutputRecordLayout],
+) -> Result<(), AllocError>
     requires good { IsWellFormed link.now }
     requires each { length records.now ≡ length link.now.plan.sections }
 {
     match merge_secondary_parts(alloc, link, records) {
         Ok(merged) => add_records(line, "merged", &merged),
-        Err(error) => line.add("refused", &error),
+        Err(error) => add(line, "refused", &error),
     }
 }
 
@@ -200,11 +226,11 @@ fn all_segments(alloc: Global, plan: &Plan) -> Result<Vec<SegmentId>, AllocError
 }
 
 /// Adds what segments span.
-fn add_layouts(line: &mut Line, layouts: &SegmentLayouts) {
-    line.add_space();
-    line.push_str("segments");
+fn add_layouts(line: &mut String, layouts: &SegmentLayouts) -> Result<(), AllocError> {
+    add_space(line)?;
+    line.push_str("segments")?;
     for segment in layouts.segments.as_slice() {
-        add_segment(line, segment);
+        add_segment(line, segment)?;
     }
     match &layouts.tls_layout {
         Some(sizes) => add_record(line, "tls ", sizes),
@@ -215,67 +241,72 @@ fn add_layouts(line: &mut Line, layouts: &SegmentLayouts) {
 /// Adds what these segments span in a kind of file.
 fn add_spanned(
     alloc: Global,
-    line: &mut Line,
+    line: &mut String,
     link: &LinkInput,
     given: Given<'_>,
     active: &[SegmentId],
     kind: SegmentFileLayout,
-)
+) -> Result<(), AllocError>
     requires good { IsWellFormed link.now }
     requires each { length given.records.now ≡ length link.now.plan.sections }
     requires there { All (λ i. i < length link.now.plan.segments) active.now }
 {
     match compute_segment_layout(alloc, link, given.records, given.emitted, active, kind) {
         Ok(layouts) => add_layouts(line, &layouts),
-        Err(error) => line.add("refused", &error),
+        Err(error) => add(line, "refused", &error),
     }
 }
 
 /// Adds what all segments span in both kinds of file.
-fn add_segments(alloc: Global, line: &mut Line, link: &LinkInput, given: Given<'_>)
+fn add_segments(
+    alloc: Global,
+    line: &mut String,
+    link: &LinkInput,
+    given: Given<'_>,
+) -> Result<(), AllocError>
     requires good { IsWellFormed link.now }
     requires each { length given.records.now ≡ length link.now.plan.sections }
 {
     if link.plan.segments.len() > 64 {
-        return;
+        return Ok(());
     }
-    match all_segments(alloc, &link.plan) {
-        Ok(active) => {
-            let kind = SegmentFileLayout::FromSections;
-            add_spanned(alloc, line, link, given, &active, kind);
-            let kind = SegmentFileLayout::Compacted;
-            add_spanned(alloc, line, link, given, &active, kind)
-        }
-        Err(_) => line.run_out(),
-    }
-}
-
-/// Adds the place alignments of segments over parts of these sizes.
-fn add_alignments(alloc: Global, line: &mut Line, link: &LinkInput, sizes: &[u64])
-    requires good { IsWellFormed link.now }
-{
-    if sizes.len() != link.plan.sections.parts().len() {
-        return;
-    }
-    line.push_str("aligned");
-    match &compute_segment_alignments(alloc, link, sizes) {
-        Ok(alignments) => {
-            for alignment in alignments {
-                write!(line, " {value}", value = alignment.value());
-            }
-        }
-        Err(_) => line.run_out(),
-    }
+    let active = all_segments(alloc, &link.plan)?;
+    add_spanned(
+        alloc,
+        line,
+        link,
+        given,
+        &active,
+        SegmentFileLayout::FromSections,
+    )?;
+    add_spanned(
+        alloc,
+        line,
+        link,
+        given,
+        &active,
+        SegmentFileLayout::Compacted,
+    )
 }
 
 /// Adds the place alignments of segments.
-fn add_aligned(alloc: Global, line: &mut Line, link: &LinkInput, records: &[OutputRecordLayout])
+fn add_aligned(
+    alloc: Global,
+    line: &mut String,
+    link: &LinkInput,
+    records: &[OutputRecordLayout],
+) -> Result<(), AllocError>
     requires good { IsWellFormed link.now }
 {
-    match &sizes_of(alloc, records) {
-        Ok(sizes) => add_alignments(alloc, line, link, sizes),
-        Err(_) => line.run_out(),
+    let sizes = sizes_of(alloc, records)?;
+    if sizes.len() != link.plan.sections.parts().len() {
+        return Ok(());
     }
+    line.push_str("aligned")?;
+    for alignment in &compute_segment_alignments(alloc, link, &sizes)? {
+        write!(line, " {value}", value = alignment.value())?;
+    }
+    Ok(())
 }
 
 /// The bytes that records have in memory.
@@ -304,37 +335,33 @@ fn fit_behind(records: &[OutputRecordLayout]) -> bool
 /// Adds the file ranges of a section's parts, moved to 1000.
 fn add_ranged(
     alloc: Global,
-    line: &mut Line,
+    line: &mut String,
     section: &PlanSection,
     layout: OutputRecordLayout,
     records: &[OutputRecordLayout],
-)
+) -> Result<(), AllocError>
     requires { 1000 + sum_by (λ r. r.file_size) records.now < 2 ^ 64 }
 {
-    match Vec::from_slice(alloc, records) {
-        Ok(mut parts) => {
-            let mut layout = layout;
-            let end = assign_section_file_range(section, &mut layout, &mut parts, 1000);
-            add_record(line, "ranged ", &layout);
-            line.add("end", &end);
-            add_records(line, "parts", &parts)
-        }
-        Err(_) => line.run_out(),
-    }
+    let mut layout = layout;
+    let mut parts = Vec::from_slice(alloc, records)?;
+    let end = assign_section_file_range(section, &mut layout, &mut parts, 1000);
+    add_record(line, "ranged ", &layout)?;
+    add(line, "end", &end)?;
+    add_records(line, "parts", &parts)
 }
 
 /// Adds what a section spans by the records of its parts, and their file ranges, moved to 1000.
 fn add_parts(
     alloc: Global,
-    line: &mut Line,
+    line: &mut String,
     section: &PlanSection,
     records: &[OutputRecordLayout],
-) {
+) -> Result<(), AllocError> {
     if Alignment::new(section.align).is_none() {
-        return;
+        return Ok(());
     }
     let layout = layout_section_from_part_layouts(section, records);
-    add_record(line, "section ", &layout);
+    add_record(line, "section ", &layout)?;
     if fit_behind(records) {
         add_ranged(alloc, line, section, layout, records)
     } else {
@@ -352,16 +379,15 @@ struct Given<'a> {
 /// Adds what is asked of sections.
 fn add_of_sections(
     alloc: Global,
-    line: &mut Line,
+    line: &mut String,
     asked: Spanned,
     link: &LinkInput,
     given: Given<'_>,
-)
+) -> Result<(), AllocError>
     requires { IsWellFormed link.now }
 {
     if given.records.len() != link.plan.sections.len() {
-        line.push_str("other records");
-        return;
+        return line.push_str("other records");
     }
     match asked {
         Spanned::Merged => add_merged(alloc, line, link, given.records),
@@ -370,7 +396,13 @@ fn add_of_sections(
 }
 
 /// Adds what is asked of a link that is well formed.
-fn add_asked(alloc: Global, line: &mut Line, asked: Spanned, link: &LinkInput, given: Given<'_>)
+fn add_asked(
+    alloc: Global,
+    line: &mut String,
+    asked: Spanned,
+    link: &LinkInput,
+    given: Given<'_>,
+) -> Result<(), AllocError>
     requires { IsWellFormed link.now }
 {
     match (asked, link.plan.sections.as_slice()) {
@@ -381,31 +413,40 @@ fn add_asked(alloc: Global, line: &mut Line, asked: Spanned, link: &LinkInput, g
 }
 
 /// Adds what is asked of a link, if it is well formed.
-fn add_checked(alloc: Global, line: &mut Line, asked: Spanned, link: &LinkInput, given: Given<'_>) {
+fn add_checked(
+    alloc: Global,
+    line: &mut String,
+    asked: Spanned,
+    link: &LinkInput,
+    given: Given<'_>,
+) -> Result<(), AllocError> {
     match check_link(link) {
         Ok(()) => add_asked(alloc, line, asked, link, given),
-        Err(fault) => line.add("fault", &fault),
+        Err(fault) => add(line, "fault", &fault),
     }
 }
 
 /// Adds what is asked of the link that a text stands for.
-fn add_read(alloc: Global, line: &mut Line, asked: Spanned, text: &str, given: Given<'_>) {
+fn add_read(
+    alloc: Global,
+    line: &mut String,
+    asked: Spanned,
+    text: &str,
+    given: Given<'_>,
+) -> Result<(), AllocError> {
     match &read_link(alloc, text.as_bytes()) {
         Ok(link) => add_checked(alloc, line, asked, link, given),
         Err(error) => write!(line, "no link: {error}"),
     }
 }
 
-/// Records, whether sections are emitted, and a description.
-#[derive(Drop)]
-struct Told {
-    records: Vec<OutputRecordLayout>,
-    emitted: Vec<bool>,
-    text: String,
-}
-
-/// What a row tells.
-fn told_of(alloc: Global, row: &str) -> Result<Told, AllocError> {
+/// Adds what is asked of the records and the link that a row tells.
+pub fn add_placed(
+    alloc: Global,
+    line: &mut String,
+    asked: Spanned,
+    row: &str,
+) -> Result<(), AllocError> {
     let (told, text) = row.split_once(" {").unwrap_or((row, ""));
     let mut records = Vec::new(alloc);
     let mut emitted = Vec::new(alloc);
@@ -414,63 +455,49 @@ fn told_of(alloc: Global, row: &str) -> Result<Told, AllocError> {
         emitted.push(record.ends_with('!'))?;
     }
     let text = format!(in alloc; "{{{text}")?;
-    Ok(Told {
-        records,
-        emitted,
-        text,
-    })
-}
-
-/// Adds what is asked of the records and the link that a row tells.
-pub fn add_placed(alloc: Global, line: &mut Line, asked: Spanned, row: &str) {
-    match &told_of(alloc, row) {
-        Ok(told) => {
-            let given = Given {
-                records: &told.records,
-                emitted: &told.emitted,
-            };
-            add_read(alloc, line, asked, told.text.as_str(), given)
-        }
-        Err(_) => line.run_out(),
-    }
+    let given = Given {
+        records: &records,
+        emitted: &emitted,
+    };
+    add_read(alloc, line, asked, text.as_str(), given)
 }
 
 #[test]
-fn secondaries_are_joined_to_their_primaries(rt: HostRuntime) -> Result<(), Failed> {
+fn secondaries_are_joined_to_their_primaries(rt: HostRuntime) -> Result<(), Fail> {
     expect_rows(
         &rt,
         rt.alloc(),
-        &Asked::Placement(OfPlacement::Placed(Spanned::Merged)),
+        Asked::Placement(OfPlacement::Placed(Spanned::Merged)),
         MERGED,
     )
 }
 
 #[test]
-fn segments_span_what_counts_inside(rt: HostRuntime) -> Result<(), Failed> {
+fn segments_span_what_counts_inside(rt: HostRuntime) -> Result<(), Fail> {
     expect_rows(
         &rt,
         rt.alloc(),
-        &Asked::Placement(OfPlacement::Placed(Spanned::Segments)),
+        Asked::Placement(OfPlacement::Placed(Spanned::Segments)),
         SEGMENTS,
     )
 }
 
 #[test]
-fn segments_have_place_alignments(rt: HostRuntime) -> Result<(), Failed> {
+fn segments_have_place_alignments(rt: HostRuntime) -> Result<(), Fail> {
     expect_rows(
         &rt,
         rt.alloc(),
-        &Asked::Placement(OfPlacement::Placed(Spanned::Aligned)),
+        Asked::Placement(OfPlacement::Placed(Spanned::Aligned)),
         ALIGNED,
     )
 }
 
 #[test]
-fn sections_span_their_parts(rt: HostRuntime) -> Result<(), Failed> {
+fn sections_span_their_parts(rt: HostRuntime) -> Result<(), Fail> {
     expect_rows(
         &rt,
         rt.alloc(),
-        &Asked::Placement(OfPlacement::Placed(Spanned::Parts)),
+        Asked::Placement(OfPlacement::Placed(Spanned::Parts)),
         PARTS,
     )
 }

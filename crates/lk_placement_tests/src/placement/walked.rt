@@ -12,8 +12,9 @@ use lk_check::check_link;
 use lk_input::{InputError, read_link};
 use lk_link::{LinkInput, List, PartId, Small64};
 use lk_place::{Placed, SymbolPosition, SymbolPositions, compute_layout_sections};
-use lk_test_rows::{Failed, Line};
+use lk_test_rows::add;
 use std::alloc::{AllocError, Global};
+use std::test::Fail;
 
 /// Moves of the location, between sections of 8 and 4 bytes.
 const MOVES: &str = r#"
@@ -364,19 +365,23 @@ struct Given<'a> {
 }
 
 /// Adds where all stands.
-fn add_all(line: &mut Line, placed: &Placed) {
-    add_records(line, "parts", placed.parts.as_slice());
-    add_records(line, "sections", placed.sections.as_slice());
-    line.add("counters", &placed.counters.as_slice())
+fn add_all(line: &mut String, placed: &Placed) -> Result<(), AllocError> {
+    add_records(line, "parts", placed.parts.as_slice())?;
+    add_records(line, "sections", placed.sections.as_slice())?;
+    add(line, "counters", &placed.counters.as_slice())
 }
 
 /// Adds where all stands, or the refusal.
-fn add_walked(alloc: Global, line: &mut Line, link: &LinkInput, given: Given<'_>)
+fn add_walked(
+    alloc: Global,
+    line: &mut String,
+    link: &LinkInput,
+    given: Given<'_>,
+) -> Result<(), AllocError>
     requires { IsWellFormed link.now }
 {
     if given.sizes.len() != link.plan.sections.parts().len() {
-        line.push_str("other parts");
-        return;
+        return line.push_str("other parts");
     }
     match compute_layout_sections(
         alloc,
@@ -387,25 +392,30 @@ fn add_walked(alloc: Global, line: &mut Line, link: &LinkInput, given: Given<'_>
         &Small64,
     ) {
         Ok(placed) => add_all(line, &placed),
-        Err(error) => line.add("refused", &error),
+        Err(error) => add(line, "refused", &error),
     }
 }
 
 /// The same of a link that is well formed.
-fn add_checked(alloc: Global, line: &mut Line, link: &LinkInput, given: Given<'_>) {
+fn add_checked(
+    alloc: Global,
+    line: &mut String,
+    link: &LinkInput,
+    given: Given<'_>,
+) -> Result<(), AllocError> {
     match check_link(link) {
         Ok(()) => add_walked(alloc, line, link, given),
-        Err(fault) => line.add("fault", &fault),
+        Err(fault) => add(line, "fault", &fault),
     }
 }
 
 /// The same of a link that there is.
 fn add_found(
     alloc: Global,
-    line: &mut Line,
+    line: &mut String,
     link: &Result<LinkInput, InputError>,
     given: Given<'_>,
-) {
+) -> Result<(), AllocError> {
     match link {
         Ok(link) => add_checked(alloc, line, link, given),
         Err(error) => write!(line, "no link: {error}"),
@@ -413,22 +423,18 @@ fn add_found(
 }
 
 /// The same of the link that a text stands for.
-fn add_read(alloc: Global, line: &mut Line, text: &str, given: Given<'_>) {
+fn add_read(
+    alloc: Global,
+    line: &mut String,
+    text: &str,
+    given: Given<'_>,
+) -> Result<(), AllocError> {
     let link = read_link(alloc, text.as_bytes());
     add_found(alloc, line, &link, given)
 }
 
-/// The bytes of the headers and of all parts, the places of symbols, and a description.
-#[derive(Drop)]
-struct Told {
-    headers: u64,
-    sizes: Vec<u64>,
-    positions: SymbolPositions,
-    text: String,
-}
-
-/// What a row tells.
-fn told_of(alloc: Global, row: &str) -> Result<Told, AllocError> {
+/// Adds where all stands by what a row tells.
+pub fn add_walk(alloc: Global, line: &mut String, row: &str) -> Result<(), AllocError> {
     let (told, text) = row.split_once(" {").unwrap_or((row, ""));
     let mut words = told.split_whitespace();
     let headers = words.next().unwrap_or("").parse::<u64>().unwrap_or(0);
@@ -437,116 +443,92 @@ fn told_of(alloc: Global, row: &str) -> Result<Told, AllocError> {
     for word in words {
         positions.push(position_of(word))?;
     }
+    let positions = SymbolPositions::new(List::from_vec(positions));
     let text = format!(in alloc; "{{{text}")?;
-    Ok(Told {
+    let given = Given {
         headers,
-        sizes,
-        positions: SymbolPositions::new(List::from_vec(positions)),
-        text,
-    })
-}
-
-/// Adds where all stands by what a row tells.
-pub fn add_walk(alloc: Global, line: &mut Line, row: &str) {
-    match &told_of(alloc, row) {
-        Ok(told) => {
-            let given = Given {
-                headers: told.headers,
-                sizes: &told.sizes,
-                positions: &told.positions,
-            };
-            add_read(alloc, line, told.text.as_str(), given)
-        }
-        Err(_) => line.run_out(),
-    }
+        sizes: &sizes,
+        positions: &positions,
+    };
+    add_read(alloc, line, text.as_str(), given)
 }
 
 #[test]
-fn locations_move_what_comes_next(rt: HostRuntime) -> Result<(), Failed> {
+fn locations_move_what_comes_next(rt: HostRuntime) -> Result<(), Fail> {
     expect_rows(
         &rt,
         rt.alloc(),
-        &Asked::Placement(OfPlacement::Walked),
+        Asked::Placement(OfPlacement::Walked),
         MOVES,
     )
 }
 
 #[test]
-fn sections_have_load_addresses(rt: HostRuntime) -> Result<(), Failed> {
+fn sections_have_load_addresses(rt: HostRuntime) -> Result<(), Fail> {
     expect_rows(
         &rt,
         rt.alloc(),
-        &Asked::Placement(OfPlacement::Walked),
+        Asked::Placement(OfPlacement::Walked),
         LOADS,
     )
 }
 
 #[test]
-fn regions_hold_their_sections(rt: HostRuntime) -> Result<(), Failed> {
+fn regions_hold_their_sections(rt: HostRuntime) -> Result<(), Fail> {
     expect_rows(
         &rt,
         rt.alloc(),
-        &Asked::Placement(OfPlacement::Walked),
+        Asked::Placement(OfPlacement::Walked),
         REGIONS,
     )
 }
 
 #[test]
-fn sections_stand_behind_one_another(rt: HostRuntime) -> Result<(), Failed> {
+fn sections_stand_behind_one_another(rt: HostRuntime) -> Result<(), Fail> {
     expect_rows(
         &rt,
         rt.alloc(),
-        &Asked::Placement(OfPlacement::Walked),
+        Asked::Placement(OfPlacement::Walked),
         WALKS,
     )
 }
 
 #[test]
-fn load_segments_open_nested_and_across(rt: HostRuntime) -> Result<(), Failed> {
+fn load_segments_open_nested_and_across(rt: HostRuntime) -> Result<(), Fail> {
     expect_rows(
         &rt,
         rt.alloc(),
-        &Asked::Placement(OfPlacement::Walked),
+        Asked::Placement(OfPlacement::Walked),
         OPENINGS,
     )
 }
 
 #[test]
-fn thread_local_rows_are_rounded_up_anew(rt: HostRuntime) -> Result<(), Failed> {
-    expect_rows(
-        &rt,
-        rt.alloc(),
-        &Asked::Placement(OfPlacement::Walked),
-        RUNS,
-    )
+fn thread_local_rows_are_rounded_up_anew(rt: HostRuntime) -> Result<(), Fail> {
+    expect_rows(&rt, rt.alloc(), Asked::Placement(OfPlacement::Walked), RUNS)
 }
 
 #[test]
-fn secondaries_go_by_their_primaries(rt: HostRuntime) -> Result<(), Failed> {
+fn secondaries_go_by_their_primaries(rt: HostRuntime) -> Result<(), Fail> {
     expect_rows(
         &rt,
         rt.alloc(),
-        &Asked::Placement(OfPlacement::Walked),
+        Asked::Placement(OfPlacement::Walked),
         SECONDARIES,
     )
 }
 
 #[test]
-fn numbers_go_to_their_end_and_not_past_it(rt: HostRuntime) -> Result<(), Failed> {
-    expect_rows(
-        &rt,
-        rt.alloc(),
-        &Asked::Placement(OfPlacement::Walked),
-        ENDS,
-    )
+fn numbers_go_to_their_end_and_not_past_it(rt: HostRuntime) -> Result<(), Fail> {
+    expect_rows(&rt, rt.alloc(), Asked::Placement(OfPlacement::Walked), ENDS)
 }
 
 #[test]
-fn the_last_region_holds_its_sections(rt: HostRuntime) -> Result<(), Failed> {
+fn the_last_region_holds_its_sections(rt: HostRuntime) -> Result<(), Fail> {
     expect_rows(
         &rt,
         rt.alloc(),
-        &Asked::Placement(OfPlacement::Walked),
+        Asked::Placement(OfPlacement::Walked),
         MOST_REGIONS,
     )
 }

@@ -2,7 +2,7 @@
 
 use crate::rows::{Asked, expect_rows};
 use crate::sizes::OfSizes;
-use lk_test_rows::Failed;
+use std::test::Fail;
 
 /// Two files with a section and a common each, rounded up and packed; a common that nothing asks for; commons in sections that
 /// are else empty, one without bytes; an image beside one; one that only an export keeps, and one whose size alone is asked
@@ -22,6 +22,6 @@ const COMMONS: &str = r#"
 "#;
 
 #[test]
-fn commons_take_bytes_of_their_parts(rt: HostRuntime) -> Result<(), Failed> {
-    expect_rows(&rt, rt.alloc(), &Asked::Sizes(OfSizes::Sizes), COMMONS)
+fn commons_take_bytes_of_their_parts(rt: HostRuntime) -> Result<(), Fail> {
+    expect_rows(&rt, rt.alloc(), Asked::Sizes(OfSizes::Sizes), COMMONS)
 }

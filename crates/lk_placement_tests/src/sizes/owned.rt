@@ -11,8 +11,8 @@ use lk_live::{Live, traverse_alone};
 use lk_sizes::part_owners::plain_owners;
 use lk_sizes::{PartOwners, SizeError, part_sizes};
 use lk_tables::{FileShare, TableTotals, bytes_in_part, mark_prelude, symbol_shares};
-use lk_test_rows::{Failed, Line};
-use std::alloc::Global;
+use std::alloc::{AllocError, Global};
+use std::test::Fail;
 
 /// The owners of each part of one small link, and the bytes of all of them: sections by file and index, commons by symbol, and
 /// tables by file, with what the prelude takes when it is known what is emitted. Parts 0 and 1 are headers: 64 bytes, and 56 for
@@ -42,7 +42,12 @@ struct Owned<'a> {
 }
 
 /// Adds the live sections of a part that a file has.
-fn add_sections(line: &mut Line, owned: Owned<'_>, file: FileId, part: u32) {
+fn add_sections(
+    line: &mut String,
+    owned: Owned<'_>,
+    file: FileId,
+    part: u32,
+) -> Result<(), AllocError> {
     let groups = &owned.link.groups;
     if groups.len() <= 65535 && groups.file_count() <= 16777216 {
         for input in owned.live.inputs(owned.link) {
@@ -50,31 +55,39 @@ fn add_sections(line: &mut Line, owned: Owned<'_>, file: FileId, part: u32) {
             let is_its = found.group == file.group && found.file == file.file;
             if is_its && input.section.part.as_u32() == part {
                 let (index, size) = (input.index, input.section.size);
-                write!(line, " live {file}.{index} {size}");
+                write!(line, " live {file}.{index} {size}")?;
             }
         }
     }
+    Ok(())
 }
 
 /// Adds the commons of a part whose symbols have these numbers.
-fn add_commons(line: &mut Line, owners: &PartOwners, first: usize, behind: usize, part: u32) {
+fn add_commons(
+    line: &mut String,
+    owners: &PartOwners,
+    first: usize,
+    behind: usize,
+    part: u32,
+) -> Result<(), AllocError> {
     for common in owners.commons() {
         let symbol = common.symbol.as_usize();
         if first <= symbol && symbol < behind && common.part.as_u32() == part {
             let size = common.size;
-            write!(line, " common {symbol} {size}");
+            write!(line, " common {symbol} {size}")?;
         }
     }
+    Ok(())
 }
 
 /// Adds the identity, if it stands in a part.
-fn add_identity(line: &mut Line, link: &LinkInput, part: u32) {
+fn add_identity(line: &mut String, link: &LinkInput, part: u32) -> Result<(), AllocError> {
     match (&link.plan.named.comment, &link.options.identity) {
         (Some(comment), Some(text)) if comment.as_u32() == part => {
             let text = text.as_str();
             write!(line, " identity {text}")
         }
-        _ => {}
+        _ => Ok(()),
     }
 }
 
@@ -95,120 +108,132 @@ fn file_totals(share: &FileShare) -> TableTotals {
     }
 }
 
-/// The bytes that a file takes of the table of a part.
-fn share_bytes(link: &LinkInput, share: &FileShare, part: u32) -> u128 {
+/// Adds the bytes that a file takes of the table of a part.
+fn add_share(
+    line: &mut String,
+    link: &LinkInput,
+    word: &str,
+    share: &FileShare,
+    part: u32,
+) -> Result<(), AllocError> {
     let part = PartId::from_u32(part);
-    bytes_in_part(&link.plan.named, &file_totals(share), part)
+    match bytes_in_part(&link.plan.named, &file_totals(share), part) {
+        0 => Ok(()),
+        bytes => write!(line, " {word} {bytes}"),
+    }
 }
 
 /// Adds the owners of a part that a file brings, by its number and those of its symbols.
 fn add_file(
-    line: &mut Line,
+    alloc: Global,
+    line: &mut String,
     owned: Owned<'_>,
     file: FileId,
     number: usize,
     symbols: (usize, usize),
     part: u32,
-) {
-    add_sections(line, owned, file, part);
-    add_commons(line, owned.owners, symbols.0, symbols.1, part);
-    if let Some(share) = owned.shares.get(number) {
-        let bytes = share_bytes(owned.link, share, part);
-        if bytes > 0 {
-            write!(line, " file {number} {bytes}");
+) -> Result<(), AllocError> {
+    add_sections(line, owned, file, part)?;
+    add_commons(line, owned.owners, symbols.0, symbols.1, part)?;
+    match owned.shares.get(number) {
+        Some(share) => {
+            let word = format!(in alloc; "file {number}")?;
+            add_share(line, owned.link, word.as_str(), share, part)
         }
+        None => Ok(()),
     }
 }
 
 /// Adds the owners of a part that files bring, file by file, and what the prelude takes behind that.
-fn add_files(line: &mut Line, owned: Owned<'_>, part: u32) {
+fn add_files(
+    alloc: Global,
+    line: &mut String,
+    owned: Owned<'_>,
+    part: u32,
+) -> Result<(), AllocError> {
     let groups = &owned.link.groups;
     let mut first = 0usize;
     let mut number = 0usize;
     if groups.len() <= 65535 && groups.file_count() <= 16777216 {
         for file in groups.files() {
             let behind = first.saturating_add(file.file.symbols.len());
-            add_file(line, owned, file.id, number, (first, behind), part);
+            add_file(alloc, line, owned, file.id, number, (first, behind), part)?;
             first = behind;
             number = number.saturating_add(1);
         }
     }
-    let late = share_bytes(owned.link, &owned.late, part);
-    if late > 0 {
-        write!(line, " late {late}");
-    }
+    add_share(line, owned.link, "late", &owned.late, part)
 }
 
 /// Adds the owners of a part with so many bytes, in their order.
-fn add_part(line: &mut Line, owned: Owned<'_>, part: u32, bytes: u64) {
+fn add_part(
+    alloc: Global,
+    line: &mut String,
+    owned: Owned<'_>,
+    part: u32,
+    bytes: u64,
+) -> Result<(), AllocError> {
     let space = if part == 0 { "" } else { " " };
-    write!(line, "{space}{part}:");
+    write!(line, "{space}{part}:")?;
     match owned.owners.contents().get(part as usize) {
-        Some(contents) if contents.has_image => line.push_str(" image"),
+        Some(contents) if contents.has_image => line.push_str(" image")?,
         _ => {}
     }
-    add_identity(line, owned.link, part);
-    add_files(line, owned, part);
+    add_identity(line, owned.link, part)?;
+    add_files(alloc, line, owned, part)?;
     write!(line, " = {bytes};")
 }
 
 /// Adds the owners of each part.
-fn add_parts(alloc: Global, line: &mut Line, owned: Owned<'_>) {
-    match &part_sizes(alloc, owned.owners) {
-        Ok(sizes) => {
-            let mut part = 0u32;
-            for bytes in sizes {
-                add_part(line, owned, part, *bytes);
-                part = part.saturating_add(1);
-            }
-        }
-        Err(_) => line.run_out(),
+fn add_parts(alloc: Global, line: &mut String, owned: Owned<'_>) -> Result<(), AllocError> {
+    let mut part = 0u32;
+    for bytes in &part_sizes(alloc, owned.owners)? {
+        add_part(alloc, line, owned, part, *bytes)?;
+        part = part.saturating_add(1);
     }
-}
-
-/// Adds the owners of each part, which are these.
-fn add_by_owners(alloc: Global, line: &mut Line, link: &LinkInput, live: &Live, owners: &PartOwners)
-    requires { IsWellFormed link.now }
-{
-    match &symbol_shares(alloc, link, &Small64, live) {
-        Ok(shares) => {
-            let owned = Owned {
-                link,
-                live,
-                owners,
-                shares: &shares.files,
-                late: mark_prelude(link, &Small64, live, owners.header().told.as_slice()),
-            };
-            add_parts(alloc, line, owned)
-        }
-        Err(_) => line.run_out(),
-    }
+    Ok(())
 }
 
 /// Adds the owners of each part where this is live, or why there are none.
-fn add_live_owned(alloc: Global, line: &mut Line, link: &LinkInput, live: &Live)
+fn add_live_owned(
+    alloc: Global,
+    line: &mut String,
+    link: &LinkInput,
+    live: &Live,
+) -> Result<(), AllocError>
     requires good { IsWellFormed link.now }
     requires live { AreLive link.now live.now }
 {
     match &plain_owners(alloc, link, &Small64, live, IMAGE_LENS) {
-        Ok(owners) => add_by_owners(alloc, line, link, live, owners),
-        Err(SizeError::NoMemory) => line.run_out(),
+        Ok(owners) => {
+            let shares = &symbol_shares(alloc, link, &Small64, live)?.files;
+            let late = mark_prelude(link, &Small64, live, owners.header().told.as_slice());
+            let owned = Owned {
+                link,
+                live,
+                owners,
+                shares,
+                late,
+            };
+            add_parts(alloc, line, owned)
+        }
+        Err(SizeError::NoMemory) => Err(AllocError),
         Err(error) => write!(line, "refused {error:?}"),
     }
 }
 
 /// Adds the owners of each part of a link that is well formed, and whose output isn't partial.
-pub fn add_owned(alloc: Global, line: &mut Line, link: &LinkInput) {
+pub fn add_owned(alloc: Global, line: &mut String, link: &LinkInput) -> Result<(), AllocError> {
     if check_link(link).is_err() || link.options.output.is_partial() {
-        return;
+        return Ok(());
     }
     match &traverse_alone(alloc, link) {
         Ok(live) => add_live_owned(alloc, line, link, live),
-        Err(_) => {}
+        Err(_) => Ok(()),
     }
 }
 
 #[test]
-fn parts_have_their_owners(rt: HostRuntime) -> Result<(), Failed> {
-    expect_rows(&rt, rt.alloc(), &Asked::Sizes(OfSizes::Owned), OWNED)
+fn parts_have_their_owners(rt: HostRuntime) -> Result<(), Fail> {
+    expect_rows(&rt, rt.alloc(), Asked::Sizes(OfSizes::Owned), OWNED)
 }

@@ -9,8 +9,9 @@ use lk_check::check_link;
 use lk_link::{LinkInput, SymbolId, ValueFlags};
 use lk_live::{Live, traverse_alone};
 use lk_sizes::{PartialLinkPlan, PartialLinkSingletons, SymbolCopyInfo};
-use lk_test_rows::{Failed, Line};
+use lk_test_rows::add;
 use std::alloc::{AllocError, Global};
+use std::test::Fail;
 
 /// Output that isn't linked again; such output without singletons; two live singletons in one group and one in the next, behind four
 /// emitted sections; ones without a name or without bytes, and one that nothing keeps; symbols that are undefined, in a discarded
@@ -23,35 +24,44 @@ const PARTIAL: &str = r#"
 {"options":{"output":"partial"},"plan":{"page":16},"groups":[[{"kind":"prelude"}],[{"kind":"object","sections":[{"slot":"discard"}],"symbols":[{"at":["undef"],"name":"u"},{"at":["sec",0,0],"name":"d"},{"at":["sec",0,0],"name":"l","local":true},{"at":["undef"]},{"at":["undef"],"name":"w","def":0},{"at":["abs",1],"name":"n"}]}]]} => groups [(0, 0), (0, 0)] empty true indexes [] behind 4 undefined [Some("u"), Some("d"), None, None, None, None]
 "#;
 
-/// The indexes of all singletons behind four emitted sections.
-fn indexes_of(alloc: Global, singletons: &PartialLinkSingletons) -> Result<Vec<u32>, AllocError> {
+/// Adds the indexes of all singletons behind four emitted sections.
+fn add_indexes(
+    alloc: Global,
+    line: &mut String,
+    singletons: &PartialLinkSingletons,
+) -> Result<(), AllocError> {
     let range = singletons.output_index_range(4);
     let mut indexes = Vec::new(alloc);
     for ordinal in 0..range.end - range.start {
         indexes.push(singletons.output_index(range.start, ordinal))?;
     }
-    Ok(indexes)
+    add(line, "indexes", &indexes)?;
+    add(line, "behind", &range.end)
 }
 
 /// Adds what is known of output that is linked again.
-fn add_plan(alloc: Global, line: &mut Line, plan: &Option<PartialLinkPlan>) {
+fn add_plan(
+    alloc: Global,
+    line: &mut String,
+    plan: &Option<PartialLinkPlan>,
+) -> Result<(), AllocError> {
     match plan {
         Some(plan) => {
-            line.add("groups", &plan.singletons.group_sizes());
-            line.add("empty", &plan.singletons.is_empty());
-            line.add_made("indexes", &indexes_of(alloc, &plan.singletons));
-            line.add("behind", &plan.singletons.output_index_range(4).end)
+            add(line, "groups", &plan.singletons.group_sizes())?;
+            add(line, "empty", &plan.singletons.is_empty())?;
+            add_indexes(alloc, line, &plan.singletons)
         }
         None => write!(line, "none"),
     }
 }
 
-/// The name under which each symbol is copied though it has no place, if it were wanted.
-fn undefined_names<'a>(
+/// Adds the name under which each symbol is copied though it has no place, if it were wanted.
+fn add_undefined(
     alloc: Global,
-    link: &'a LinkInput,
+    line: &mut String,
+    link: &LinkInput,
     live: &Live,
-) -> Result<Vec<Option<&'a str>>, AllocError>
+) -> Result<(), AllocError>
     requires { IsWellFormed link.now }
 {
     let mut names = Vec::new(alloc);
@@ -63,32 +73,35 @@ fn undefined_names<'a>(
         names.push(copy.map(|copy| copy.name()))?;
         number = number.saturating_add(1);
     }
-    Ok(names)
+    add(line, "undefined", &names)
 }
 
 /// Adds both.
-fn add_known(alloc: Global, line: &mut Line, link: &LinkInput, live: &Live)
+fn add_known(
+    alloc: Global,
+    line: &mut String,
+    link: &LinkInput,
+    live: &Live,
+) -> Result<(), AllocError>
     requires { IsWellFormed link.now }
 {
-    match &PartialLinkPlan::build(alloc, link, live) {
-        Ok(plan) => add_plan(alloc, line, plan),
-        Err(_) => line.run_out(),
-    }
-    line.add_made("undefined", &undefined_names(alloc, link, live))
+    let plan = PartialLinkPlan::build(alloc, link, live)?;
+    add_plan(alloc, line, &plan)?;
+    add_undefined(alloc, line, link, live)
 }
 
 /// Adds both, of a link that is well formed.
-pub fn add_partial(alloc: Global, line: &mut Line, link: &LinkInput) {
+pub fn add_partial(alloc: Global, line: &mut String, link: &LinkInput) -> Result<(), AllocError> {
     if check_link(link).is_err() {
-        return;
+        return Ok(());
     }
     match traverse_alone(alloc, link) {
         Ok(live) => add_known(alloc, line, link, &live),
-        Err(_) => {}
+        Err(_) => Ok(()),
     }
 }
 
 #[test]
-fn singletons_are_counted_by_group(rt: HostRuntime) -> Result<(), Failed> {
-    expect_rows(&rt, rt.alloc(), &Asked::Sizes(OfSizes::Partial), PARTIAL)
+fn singletons_are_counted_by_group(rt: HostRuntime) -> Result<(), Fail> {
+    expect_rows(&rt, rt.alloc(), Asked::Sizes(OfSizes::Partial), PARTIAL)
 }

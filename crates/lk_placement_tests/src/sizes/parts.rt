@@ -6,8 +6,9 @@ ghost use Rattle.lk_link.specs.WellFormed.{IsWellFormed};
 ghost use Rattle.lk_live.specs.Reach.{AreLive};
 
 use crate::rows::{Asked, expect_rows};
-use crate::sizes::{OfSizes, add_of_sizes};
+use crate::sizes::OfSizes;
 use lk_check::check_link;
+use lk_input::read_link;
 use lk_link::{LinkInput, Small64};
 use lk_live::{Live, traverse_alone};
 use lk_sizes::part_owners::plain_owners;
@@ -15,9 +16,9 @@ use lk_sizes::{
     HeaderInfo, PartContents, PartOwners, SizeError, image_addresses, part_sizes, part_sizes_with,
     propagate_section_attributes,
 };
-use lk_test_rows::{Failed, Line, NO_FRAME, frame_of, framed};
+use lk_test_rows::{NO_FRAME, add, frame_of, framed};
 use std::alloc::{AllocError, Global};
-use std::sync::Wait;
+use std::test::Fail;
 use std::thread::Threads;
 
 /// One section of one part in a segment, and one of another in none; to the first go three sections of an object.
@@ -150,32 +151,37 @@ p00 o00 d00 => live (FileId { group: 1, file: 0 }, 0, 0) live (FileId { group: 1
 ";
 
 /// Adds file, index and size of each live section of groups and files that aren't too many.
-fn add_inputs(line: &mut Line, link: &LinkInput, live: &Live) {
+fn add_inputs(line: &mut String, link: &LinkInput, live: &Live) -> Result<(), AllocError> {
     if link.groups.len() <= 65535 && link.groups.file_count() <= 16777216 {
         for input in live.inputs(link) {
-            line.add("live", &(input.file, input.index, input.section.size));
+            add(line, "live", &(input.file, input.index, input.section.size))?;
         }
     }
+    Ok(())
 }
 
 /// Adds what is live, of a link that is well formed.
-pub fn add_live(alloc: Global, line: &mut Line, link: &LinkInput) {
+pub fn add_live(alloc: Global, line: &mut String, link: &LinkInput) -> Result<(), AllocError> {
     if check_link(link).is_err() {
-        return;
+        return Ok(());
     }
     match traverse_alone(alloc, link) {
         Ok(live) => add_inputs(line, link, &live),
-        Err(_) => {}
+        Err(_) => Ok(()),
     }
 }
 
 /// Adds which sections and segments are told.
-fn add_headers(line: &mut Line, header: &HeaderInfo) {
+fn add_headers(line: &mut String, header: &HeaderInfo) -> Result<(), AllocError> {
     let (indexes, active) = (
         header.output_section_indexes.as_slice(),
         header.active_segment_ids.as_slice(),
     );
-    line.add("headers", &(header.emitted.as_slice(), indexes, active))
+    add(
+        line,
+        "headers",
+        &(header.emitted.as_slice(), indexes, active),
+    )
 }
 
 /// For each part a start, 100 bytes behind its size.
@@ -190,84 +196,85 @@ fn starts_behind(alloc: Global, sizes: &[u64]) -> Result<Vec<u64>, AllocError> {
 /// Adds where images stand, by these starts, where there is one for each part.
 fn add_images(
     alloc: Global,
-    line: &mut Line,
+    line: &mut String,
     link: &LinkInput,
     contents: &[PartContents],
     starts: &[u64],
-)
+) -> Result<(), AllocError>
     requires { length contents.now ≡ length (all_parts link.now.plan.sections) }
 {
     if starts.len() == contents.len() {
-        line.add_made("images", &image_addresses(alloc, link, contents, starts));
-    }
-}
-
-/// Adds the sizes of parts, and where images stand behind them.
-fn add_behind(
-    alloc: Global,
-    line: &mut Line,
-    link: &LinkInput,
-    contents: &[PartContents],
-    sizes: &[u64],
-)
-    requires { length contents.now ≡ length (all_parts link.now.plan.sections) }
-{
-    line.add("sizes", &sizes);
-    match &starts_behind(alloc, sizes) {
-        Ok(starts) => add_images(alloc, line, link, contents, starts),
-        Err(_) => line.run_out(),
+        let images = image_addresses(alloc, link, contents, starts)?;
+        add(line, "images", &images)
+    } else {
+        Ok(())
     }
 }
 
 /// Adds what comes into each part, the sizes, and what that makes of images.
-fn add_counted(alloc: Global, line: &mut Line, link: &LinkInput, live: &Live, owners: &PartOwners)
+fn add_counted(
+    alloc: Global,
+    line: &mut String,
+    link: &LinkInput,
+    live: &Live,
+    owners: &PartOwners,
+) -> Result<(), AllocError>
     requires good { IsWellFormed link.now }
     requires live { AreLive link.now live.now }
     requires count { length owners.now.contents ≡ length (all_parts link.now.plan.sections) }
 {
     let contents = owners.contents();
-    line.add("parts", &contents);
-    line.add_made(
-        "attributes",
-        &propagate_section_attributes(alloc, link, live),
-    );
-    match &part_sizes(alloc, owners) {
-        Ok(sizes) => add_behind(alloc, line, link, contents, sizes),
-        Err(_) => line.run_out(),
-    }
+    add(line, "parts", &contents)?;
+    let attributes = propagate_section_attributes(alloc, link, live)?;
+    add(line, "attributes", &attributes)?;
+    let sizes = part_sizes(alloc, owners)?;
+    add(line, "sizes", &sizes)?;
+    let starts = starts_behind(alloc, &sizes)?;
+    add_images(alloc, line, link, contents, &starts)
 }
 
 /// Adds the same, where there are contents for each part, and which sections and segments are told.
-fn add_owners(alloc: Global, line: &mut Line, link: &LinkInput, live: &Live, owners: &PartOwners)
+fn add_owners(
+    alloc: Global,
+    line: &mut String,
+    link: &LinkInput,
+    live: &Live,
+    owners: &PartOwners,
+) -> Result<(), AllocError>
     requires good { IsWellFormed link.now }
     requires live { AreLive link.now live.now }
 {
     if owners.contents().len() == link.plan.sections.parts().len() {
-        add_counted(alloc, line, link, live, owners);
+        add_counted(alloc, line, link, live, owners)?;
     }
     add_headers(line, owners.header())
 }
 
 /// Adds what comes into each part, and what that makes of images, sections and segments.
-fn add_brought(alloc: Global, line: &mut Line, link: &LinkInput, live: &Live)
+fn add_brought(
+    alloc: Global,
+    line: &mut String,
+    link: &LinkInput,
+    live: &Live,
+) -> Result<(), AllocError>
     requires good { IsWellFormed link.now }
     requires live { AreLive link.now live.now }
 {
     match plain_owners(alloc, link, &Small64, live, MERGED_LENS) {
         Ok(owners) => add_owners(alloc, line, link, live, &owners),
-        Err(_) => {}
+        Err(_) => Ok(()),
     }
 }
 
 /// Adds what comes into each part, and what that makes of images, sections and segments, of a link that is well formed, and
 /// whose sizes aren't refused.
-pub fn add_sizes(alloc: Global, line: &mut Line, link: &LinkInput) {
+pub fn add_sizes(alloc: Global, line: &mut String, link: &LinkInput) -> Result<(), AllocError> {
     if check_link(link).is_err() {
-        return;
+        return Ok(());
     }
     match traverse_alone(alloc, link) {
         Ok(live) => add_brought(alloc, line, link, &live),
-        Err(_) => {}
+        Err(_) => Ok(()),
     }
 }
 
@@ -275,13 +282,13 @@ pub fn add_sizes(alloc: Global, line: &mut Line, link: &LinkInput) {
 fn add_part_sizes(
     rt: &(impl Threads + Sync),
     alloc: Global,
-    line: &mut Line,
+    line: &mut String,
     owners: &Result<PartOwners, SizeError>,
-) {
+) -> Result<(), AllocError> {
     match owners {
-        Ok(owners) => line.add_made("sizes", &part_sizes_with(rt, alloc, owners)),
-        Err(SizeError::NoMemory) => line.run_out(),
-        Err(error) => line.add("refused", error),
+        Ok(owners) => add(line, "sizes", &part_sizes_with(rt, alloc, owners)?),
+        Err(SizeError::NoMemory) => Err(AllocError),
+        Err(error) => add(line, "refused", error),
     }
 }
 
@@ -289,10 +296,10 @@ fn add_part_sizes(
 fn add_sums_of(
     rt: &(impl Threads + Sync),
     alloc: Global,
-    line: &mut Line,
+    line: &mut String,
     link: &LinkInput,
     live: &Live,
-)
+) -> Result<(), AllocError>
     requires good { IsWellFormed link.now }
     requires live { AreLive link.now live.now }
 {
@@ -301,13 +308,18 @@ fn add_sums_of(
 }
 
 /// Adds the bytes of all parts of a link that is well formed, or why there are none.
-pub fn add_sums(rt: &(impl Threads + Sync), alloc: Global, line: &mut Line, link: &LinkInput) {
+pub fn add_sums(
+    rt: &(impl Threads + Sync),
+    alloc: Global,
+    line: &mut String,
+    link: &LinkInput,
+) -> Result<(), AllocError> {
     if check_link(link).is_err() {
-        return;
+        return Ok(());
     }
     match traverse_alone(alloc, link) {
         Ok(live) => add_sums_of(rt, alloc, line, link, &live),
-        Err(_) => {}
+        Err(_) => Ok(()),
     }
 }
 
@@ -324,52 +336,52 @@ fn many_events(alloc: Global) -> Result<String, AllocError> {
     Ok(events)
 }
 
-/// That description, with its events.
-fn many_parts(alloc: Global) -> Result<String, AllocError> {
+/// The bytes of the 2,057 parts of that description, as several threads tell them: so many parts are more than one thread's.
+fn told_many_parts(rt: &(impl Threads + Sync), alloc: Global) -> Result<String, AllocError> {
     let events = many_events(alloc)?;
-    framed(alloc, frame_of(MANY_PARTS), events.as_str())
-}
-
-/// Adds the bytes of the 2,057 parts of that description, as several threads tell them: so many parts are more than one thread's.
-fn add_many_parts(rt: &(impl Threads + Wait + Sync), alloc: Global, line: &mut Line) {
-    match &many_parts(alloc) {
-        Ok(text) => add_of_sizes(rt, alloc, line, OfSizes::Sums, text.as_str()),
-        Err(_) => line.run_out(),
+    let text = framed(alloc, frame_of(MANY_PARTS), events.as_str())?;
+    let mut line = String::new(alloc);
+    match read_link(alloc, text.as_bytes()) {
+        Ok(link) => add_sums(rt, alloc, &mut line, &link)?,
+        Err(error) => write!(line, "no link: {error}")?,
     }
+    Ok(line)
 }
 
 #[test]
-fn many_parts_are_told_by_threads(rt: HostRuntime) -> Result<(), Failed> {
-    let want = "sizes [65536, «1023 times 0, »4096, «1031 times 0, »5]";
-    let mut line = Line::new(rt.alloc());
-    add_many_parts(&rt, rt.alloc(), &mut line);
-    match &framed(rt.alloc(), NO_FRAME, want) {
-        Ok(want) => line.expect(&rt, "many parts", want.as_str()),
-        Err(_) => Err(Failed::NoMemory),
-    }
+fn many_parts_are_told_by_threads(rt: HostRuntime) -> Result<(), Fail> {
+    let alloc = rt.alloc();
+    let line = told_many_parts(&rt, alloc)?;
+    let want = framed(
+        alloc,
+        NO_FRAME,
+        "sizes [65536, «1023 times 0, »4096, «1031 times 0, »5]",
+    )?;
+    assert_eq!(&rt; line.as_str(), want.as_str());
+    Ok(())
 }
 
 #[test]
-fn sums_end_at_the_greatest_number(rt: HostRuntime) -> Result<(), Failed> {
-    expect_rows(&rt, rt.alloc(), &Asked::Sizes(OfSizes::Sums), SUMS)
+fn sums_end_at_the_greatest_number(rt: HostRuntime) -> Result<(), Fail> {
+    expect_rows(&rt, rt.alloc(), Asked::Sizes(OfSizes::Sums), SUMS)
 }
 
 #[test]
-fn sections_of_objects_are_live(rt: HostRuntime) -> Result<(), Failed> {
-    expect_rows(&rt, rt.alloc(), &Asked::Sizes(OfSizes::Live), LIVE)
+fn sections_of_objects_are_live(rt: HostRuntime) -> Result<(), Fail> {
+    expect_rows(&rt, rt.alloc(), Asked::Sizes(OfSizes::Live), LIVE)
 }
 
 #[test]
-fn sections_of_other_files_are_not_live(rt: HostRuntime) -> Result<(), Failed> {
+fn sections_of_other_files_are_not_live(rt: HostRuntime) -> Result<(), Fail> {
     expect_rows(
         &rt,
         rt.alloc(),
-        &Asked::Sizes(OfSizes::HandMadeLive),
+        Asked::Sizes(OfSizes::HandMadeLive),
         OTHER_FILES,
     )
 }
 
 #[test]
-fn parts_have_contents_and_sections_indexes(rt: HostRuntime) -> Result<(), Failed> {
-    expect_rows(&rt, rt.alloc(), &Asked::Sizes(OfSizes::Sizes), SIZES)
+fn parts_have_contents_and_sections_indexes(rt: HostRuntime) -> Result<(), Fail> {
+    expect_rows(&rt, rt.alloc(), Asked::Sizes(OfSizes::Sizes), SIZES)
 }

@@ -17,8 +17,9 @@ use lk_sizes::{
 use lk_tables::{
     FileShare, TableTotals, bytes_in_part, first_totals, mark_prelude, symbol_shares, whole_totals,
 };
-use lk_test_rows::{Failed, Line};
+use lk_test_rows::add;
 use std::alloc::{AllocError, Global};
+use std::test::Fail;
 
 /// The bytes of the tables first, the names under which symbols are copied, the bytes of each file in the symbol table and its names, those of
 /// whole tables and of headers, and whose the entries of the dynamic symbol table are: of a symbol
@@ -54,12 +55,13 @@ fn short_name(name: &str) -> &str {
     if name.len() < 100 { name } else { "long" }
 }
 
-/// The name under which each symbol is copied, by the flags that the traversal gives it.
-fn copied_names<'a>(
+/// Adds the name under which each symbol is copied, by the flags that the traversal gives it.
+fn add_copies(
     alloc: Global,
-    link: &'a LinkInput,
+    line: &mut String,
+    link: &LinkInput,
     live: &Live,
-) -> Result<Vec<Option<&'a str>>, AllocError>
+) -> Result<(), AllocError>
     requires { IsWellFormed link.now }
 {
     let mut names = Vec::new(alloc);
@@ -69,7 +71,21 @@ fn copied_names<'a>(
         names.push(copy.map(|copy| short_name(copy.name())))?;
         number = number.saturating_add(1);
     }
-    Ok(names)
+    add(line, "copied", &names)
+}
+
+/// Adds whose the entries of the dynamic symbol table are.
+fn add_dynamic(
+    alloc: Global,
+    line: &mut String,
+    link: &LinkInput,
+    live: &Live,
+    header: &HeaderInfo,
+) -> Result<(), AllocError>
+    requires { IsWellFormed link.now }
+{
+    let table = dynamic_table(alloc, link, live, header)?;
+    add(line, "dynamic", &table)
 }
 
 /// For each part the bytes that tables take there.
@@ -90,112 +106,121 @@ fn part_bytes(
 /// Adds the bytes of the whole tables, and those in each part.
 fn add_whole(
     alloc: Global,
-    line: &mut Line,
+    line: &mut String,
     link: &LinkInput,
     live: &Live,
     header: &HeaderInfo,
     shares: &[FileShare],
-)
+) -> Result<(), AllocError>
     requires { IsWellFormed link.now }
 {
     let prelude = mark_prelude(link, &Small64, live, header.told.as_slice());
     let whole = whole_totals(link, &Small64, shares, prelude, header);
-    line.add("whole", &whole);
-    line.add_made("parts", &part_bytes(alloc, link, &whole))
+    add(line, "whole", &whole)?;
+    add(line, "parts", &part_bytes(alloc, link, &whole)?)
+}
+
+/// Adds what each file's symbols take in the symbol table and its names.
+fn add_symbols(
+    alloc: Global,
+    line: &mut String,
+    link: &LinkInput,
+    live: &Live,
+    header: &HeaderInfo,
+) -> Result<(), AllocError>
+    requires { IsWellFormed link.now }
+{
+    let symbols = symbol_sizes(alloc, link, &Small64, live, header)?;
+    add(line, "symbols", &symbols)
 }
 
 /// Adds what symbols take in tables, by what has headers and what files take first.
 fn add_by_header(
     alloc: Global,
-    line: &mut Line,
+    line: &mut String,
     link: &LinkInput,
     live: &Live,
     header: &HeaderInfo,
     shares: &[FileShare],
-)
+) -> Result<(), AllocError>
     requires { IsWellFormed link.now }
 {
-    line.add_made("copied", &copied_names(alloc, link, live));
-    line.add_made(
-        "symbols",
-        &symbol_sizes(alloc, link, &Small64, live, header),
-    );
-    add_whole(alloc, line, link, live, header, shares);
-    line.add("headers", &header_sizes(link, &Small64, header));
-    line.add_made("dynamic", &dynamic_table(alloc, link, live, header))
+    add_copies(alloc, line, link, live)?;
+    add_symbols(alloc, line, link, live, header)?;
+    add_whole(alloc, line, link, live, header, shares)?;
+    add(line, "headers", &header_sizes(link, &Small64, header))?;
+    add_dynamic(alloc, line, link, live, header)
 }
 
 /// Adds what symbols take in tables, by the sizes of the parts and what files take first.
 fn add_taken(
     alloc: Global,
-    line: &mut Line,
+    line: &mut String,
     link: &LinkInput,
     live: &Live,
     sizes: &[u64],
     shares: &[FileShare],
-)
+) -> Result<(), AllocError>
     requires good { IsWellFormed link.now }
     requires sizes { length sizes.now ≡ length (all_parts link.now.plan.sections) }
 {
-    match &determine_header_sizes(alloc, link, live, sizes) {
-        Ok(header) => add_by_header(alloc, line, link, live, header, shares),
-        Err(_) => line.run_out(),
-    }
+    let header = determine_header_sizes(alloc, link, live, sizes)?;
+    add_by_header(alloc, line, link, live, &header, shares)
 }
 
 /// Adds what symbols take in tables, by what input sections bring to the parts.
 fn add_sized(
     alloc: Global,
-    line: &mut Line,
+    line: &mut String,
     link: &LinkInput,
     live: &Live,
     totals: &[PartTotal],
     shares: &[FileShare],
-)
+) -> Result<(), AllocError>
     requires good { IsWellFormed link.now }
     requires count { length totals.now ≡ length (all_parts link.now.plan.sections) }
 {
-    line.add("first", &first_totals(link, shares));
-    match first_sizes(alloc, link, totals, shares) {
-        Ok(sizes) => {
-            if sizes.len() == link.plan.sections.parts().len() {
-                add_taken(alloc, line, link, live, &sizes, shares);
-            }
-        }
-        Err(_) => line.run_out(),
+    let first = first_totals(link, shares);
+    add(line, "first", &first)?;
+    let sizes = first_sizes(alloc, link, totals, shares)?;
+    if sizes.len() == link.plan.sections.parts().len() {
+        add_taken(alloc, line, link, live, &sizes, shares)
+    } else {
+        Ok(())
     }
 }
 
 /// Adds what the live symbols of a link take in tables.
-fn add_counted(alloc: Global, line: &mut Line, link: &LinkInput, live: &Live)
+fn add_counted(
+    alloc: Global,
+    line: &mut String,
+    link: &LinkInput,
+    live: &Live,
+) -> Result<(), AllocError>
     requires good { IsWellFormed link.now }
     requires live { AreLive link.now live.now }
 {
-    match symbol_shares(alloc, link, &Small64, live) {
-        Ok(brought) => match content_totals(alloc, link, live, &[], &brought.commons) {
-            Ok(totals) => {
-                if totals.len() == link.plan.sections.parts().len() {
-                    add_sized(alloc, line, link, live, &totals, &brought.files);
-                }
-            }
-            Err(_) => line.run_out(),
-        },
-        Err(_) => line.run_out(),
+    let brought = symbol_shares(alloc, link, &Small64, live)?;
+    let totals = content_totals(alloc, link, live, &[], &brought.commons)?;
+    if totals.len() == link.plan.sections.parts().len() {
+        add_sized(alloc, line, link, live, &totals, &brought.files)
+    } else {
+        Ok(())
     }
 }
 
 /// Adds what symbols take in tables, of a link that is well formed.
-pub fn add_tables(alloc: Global, line: &mut Line, link: &LinkInput) {
+pub fn add_tables(alloc: Global, line: &mut String, link: &LinkInput) -> Result<(), AllocError> {
     if check_link(link).is_err() {
-        return;
+        return Ok(());
     }
     match traverse_alone(alloc, link) {
         Ok(live) => add_counted(alloc, line, link, &live),
-        Err(_) => {}
+        Err(_) => Ok(()),
     }
 }
 
 #[test]
-fn symbols_take_entries_of_tables(rt: HostRuntime) -> Result<(), Failed> {
-    expect_rows(&rt, rt.alloc(), &Asked::Sizes(OfSizes::Tables), TABLES)
+fn symbols_take_entries_of_tables(rt: HostRuntime) -> Result<(), Fail> {
+    expect_rows(&rt, rt.alloc(), Asked::Sizes(OfSizes::Tables), TABLES)
 }

@@ -6,7 +6,8 @@ use crate::paths::OfPaths;
 use crate::rows::{Asked, expect_rows};
 use lk_explain::{Unit, check_path};
 use lk_link::LinkInput;
-use lk_test_rows::{Failed, Line};
+use std::alloc::AllocError;
+use std::test::Fail;
 
 /// Of a section that refers to a symbol at a second one; of one that goes on from there to a third, with a symbol that doesn't stand
 /// for itself; of the members of a section group, of which the last refers to a section outside. The first fault counts, and of
@@ -31,7 +32,7 @@ const CHECKED: &str = r#"
 "#;
 
 /// Adds whether units are a path.
-pub fn add_checked(line: &mut Line, link: &LinkInput, units: &[Unit])
+pub fn add_checked(line: &mut String, link: &LinkInput, units: &[Unit]) -> Result<(), AllocError>
     requires { IsWellFormed link.now }
 {
     match check_path(link, units) {
@@ -41,6 +42,6 @@ pub fn add_checked(line: &mut Line, link: &LinkInput, units: &[Unit])
 }
 
 #[test]
-fn paths_are_told_from_others(rt: HostRuntime) -> Result<(), Failed> {
-    expect_rows(&rt, rt.alloc(), &Asked::Paths(OfPaths::Checked), CHECKED)
+fn paths_are_told_from_others(rt: HostRuntime) -> Result<(), Fail> {
+    expect_rows(&rt, rt.alloc(), Asked::Paths(OfPaths::Checked), CHECKED)
 }

@@ -6,8 +6,8 @@ use crate::paths::OfPaths;
 use crate::rows::{Asked, expect_rows};
 use lk_explain::{ExplainError, Unit, explain};
 use lk_link::{FileId, LinkInput};
-use lk_test_rows::{Failed, Line};
-use std::alloc::Global;
+use std::alloc::{AllocError, Global};
+use std::test::Fail;
 
 const SHOWN: &str = r#"
 # The chain of a section, a symbol and a section; one that isn't reached; what isn't there.
@@ -92,7 +92,7 @@ const SHOWN: &str = r#"
 "#;
 
 /// Adds a unit.
-fn add_unit(line: &mut Line, unit: &Unit) {
+fn add_unit(line: &mut String, unit: &Unit) -> Result<(), AllocError> {
     match *unit {
         Unit::Sym(symbol) => {
             let number = symbol.as_u32();
@@ -103,25 +103,36 @@ fn add_unit(line: &mut Line, unit: &Unit) {
 }
 
 /// Adds the units of a path.
-fn add_path(line: &mut Line, path: &[Unit]) {
+fn add_path(line: &mut String, path: &[Unit]) -> Result<(), AllocError> {
     for unit in path {
-        line.add_comma();
-        add_unit(line, unit);
+        if !line.is_empty() {
+            line.push_str(", ")?;
+        }
+        add_unit(line, unit)?;
     }
+    Ok(())
 }
 
 /// Adds what is told of a unit.
-fn add_told(line: &mut Line, told: &Result<Option<Vec<Unit>>, ExplainError>) {
+fn add_told(
+    line: &mut String,
+    told: &Result<Option<Vec<Unit>>, ExplainError>,
+) -> Result<(), AllocError> {
     match told {
         Ok(Some(path)) => add_path(line, path.as_slice()),
         Ok(None) => line.push_str("not reached"),
         Err(ExplainError::NoSuchUnit) => line.push_str("no such unit"),
-        Err(ExplainError::NoMemory) => line.run_out(),
+        Err(ExplainError::NoMemory) => line.push_str("no memory"),
     }
 }
 
 /// Adds the path that is shown to the first of these units.
-pub fn add_shown(alloc: Global, line: &mut Line, link: &LinkInput, units: &[Unit])
+pub fn add_shown(
+    alloc: Global,
+    line: &mut String,
+    link: &LinkInput,
+    units: &[Unit],
+) -> Result<(), AllocError>
     requires { IsWellFormed link.now }
 {
     match units.first() {
@@ -134,6 +145,6 @@ pub fn add_shown(alloc: Global, line: &mut Line, link: &LinkInput, units: &[Unit
 }
 
 #[test]
-fn shortest_paths_are_shown(rt: HostRuntime) -> Result<(), Failed> {
-    expect_rows(&rt, rt.alloc(), &Asked::Paths(OfPaths::Shown), SHOWN)
+fn shortest_paths_are_shown(rt: HostRuntime) -> Result<(), Fail> {
+    expect_rows(&rt, rt.alloc(), Asked::Paths(OfPaths::Shown), SHOWN)
 }

@@ -3,9 +3,9 @@
 use crate::rows::{Asked, expect_rows};
 use crate::thunks::{OfThunks, number};
 use lk_link::FileId;
-use lk_test_rows::{Failed, Line};
 use lk_thunks::{ThunkBlockId, assign_thunk_blocks};
 use std::alloc::{AllocError, Global};
+use std::test::Fail;
 
 /// Nothing; objects that all end in range of the first one's end; an owner further on, the last in range of where its block begins,
 /// with one more in range of its end; one that is the first of its block; objects longer than the range; one whose end is a range
@@ -48,43 +48,41 @@ fn objects_of(alloc: Global, text: &str) -> Result<Vec<(FileId, u64, u64)>, Allo
 }
 
 /// Adds a block's number, and whether the object is its owner.
-pub fn add_user(line: &mut Line, block: ThunkBlockId, owns: bool) {
+pub fn add_user(line: &mut String, block: ThunkBlockId, owns: bool) -> Result<(), AllocError> {
     let number = block.as_usize();
-    write!(line, "{number}");
+    write!(line, "{number}")?;
     if owns {
-        line.push_str(" owner");
+        line.push_str(" owner")?;
     }
-}
-
-/// Adds how many blocks there are, and the block of each object.
-fn add_counted(line: &mut Line, users: &[(FileId, ThunkBlockId, bool)], count: usize) {
-    write!(line, "{count} blocks");
-    for user in users {
-        line.push_str(", ");
-        add_user(line, user.1, user.2);
-    }
+    Ok(())
 }
 
 /// Adds the blocks of objects.
-fn add_assigned(alloc: Global, line: &mut Line, objects: &[(FileId, u64, u64)], range: u64) {
+fn add_assigned(
+    alloc: Global,
+    line: &mut String,
+    objects: &[(FileId, u64, u64)],
+    range: u64,
+) -> Result<(), AllocError> {
     if objects.len() < 100 {
-        match assign_thunk_blocks(alloc, objects, range) {
-            Ok((users, count)) => add_counted(line, users.as_slice(), count),
-            Err(_) => line.run_out(),
+        let (users, count) = assign_thunk_blocks(alloc, objects, range)?;
+        write!(line, "{count} blocks")?;
+        for user in users.as_slice() {
+            line.push_str(", ")?;
+            add_user(line, user.1, user.2)?;
         }
     }
+    Ok(())
 }
 
 /// Adds the blocks of the objects of a text.
-pub fn add_blocks(alloc: Global, line: &mut Line, text: &str) {
+pub fn add_blocks(alloc: Global, line: &mut String, text: &str) -> Result<(), AllocError> {
     let (range, objects) = text.split_once(':').unwrap_or((text, ""));
-    match objects_of(alloc, objects) {
-        Ok(objects) => add_assigned(alloc, line, objects.as_slice(), number(range)),
-        Err(_) => line.run_out(),
-    }
+    let objects = objects_of(alloc, objects)?;
+    add_assigned(alloc, line, objects.as_slice(), number(range))
 }
 
 #[test]
-fn blocks_have_owners_in_range(rt: HostRuntime) -> Result<(), Failed> {
-    expect_rows(&rt, rt.alloc(), &Asked::Thunks(OfThunks::Blocks), BLOCKS)
+fn blocks_have_owners_in_range(rt: HostRuntime) -> Result<(), Fail> {
+    expect_rows(&rt, rt.alloc(), Asked::Thunks(OfThunks::Blocks), BLOCKS)
 }

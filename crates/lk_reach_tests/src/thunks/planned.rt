@@ -11,11 +11,11 @@ use lk_check::check_link;
 use lk_input::{InputError, read_link};
 use lk_link::{FileId, LinkInput};
 use lk_live::{GcError, Live, traverse_alone};
-use lk_test_rows::{Failed, Line};
 use lk_thunks::{
     Arch, Small64Arch, ThunkBlock, ThunkBlockId, ThunkLayoutBuilder, total_primary_bytes,
 };
-use std::alloc::Global;
+use std::alloc::{AllocError, Global};
+use std::test::Fail;
 
 /// A weak undefined target; an indirect definition that another part names; one in an empty section of the primary part, where
 /// nobody owns the block; too little code for thunks, and no part for them; a sorted section, with a second object behind it; a
@@ -58,69 +58,81 @@ PltRelative | PltRelGotBase => 1.0 1016 1024, ThunkBlock with 1 thunks 0, 1.0 0 
 "slot":"must","part":0,"size":7 | "slot":"discard","part":0,"size":7 => 1.0 500 500, 2.0 500 550, ThunkBlock with 0 thunks, 2.0 0 owner
 "#;
 
+/// Adds what stands between two things.
+fn add_comma(line: &mut String) -> Result<(), AllocError> {
+    if !line.is_empty() {
+        line.push_str(", ")?;
+    }
+    Ok(())
+}
+
 /// Adds where objects stand.
-fn add_ranges(line: &mut Line, ranges: &[(FileId, u64, u64)]) {
+fn add_ranges(line: &mut String, ranges: &[(FileId, u64, u64)]) -> Result<(), AllocError> {
     for range in ranges {
         let (file, begin, end) = *range;
-        line.add_comma();
-        write!(line, "{file} {begin} {end}");
+        add_comma(line)?;
+        write!(line, "{file} {begin} {end}")?;
     }
+    Ok(())
 }
 
 /// Adds a block's thunks.
-fn add_set(line: &mut Line, block: &ThunkBlock) {
-    line.add_comma();
-    write!(line, "{block:?}");
+fn add_set(line: &mut String, block: &ThunkBlock) -> Result<(), AllocError> {
+    add_comma(line)?;
+    write!(line, "{block:?}")?;
     for symbol in block.symbols.as_slice() {
         let number = symbol.as_u32();
-        write!(line, " {number}");
+        write!(line, " {number}")?;
     }
+    Ok(())
 }
 
 /// Adds those of all blocks.
-fn add_sets(line: &mut Line, blocks: &[ThunkBlock]) {
+fn add_sets(line: &mut String, blocks: &[ThunkBlock]) -> Result<(), AllocError> {
     for block in blocks {
-        add_set(line, block);
+        add_set(line, block)?;
     }
+    Ok(())
 }
 
 /// Adds which block each object is in.
-fn add_users(line: &mut Line, users: &[(FileId, ThunkBlockId, bool)]) {
+fn add_users(line: &mut String, users: &[(FileId, ThunkBlockId, bool)]) -> Result<(), AllocError> {
     for user in users {
         let (file, block, owns) = *user;
-        line.add_comma();
-        write!(line, "{file} ");
-        add_user(line, block, owns);
+        add_comma(line)?;
+        write!(line, "{file} ")?;
+        add_user(line, block, owns)?;
     }
+    Ok(())
 }
 
 /// Adds what a builder plans.
 fn add_built(
     alloc: Global,
-    line: &mut Line,
+    line: &mut String,
     builder: ThunkLayoutBuilder,
     link: &LinkInput,
     live: &Live,
     start: u64,
-)
+) -> Result<(), AllocError>
     requires good { IsWellFormed link.now }
     requires room { start + total_primary_bytes link.now live.now < 2 ^ 64 }
 {
-    match builder.collect_primary_ranges(alloc, link, live, start) {
-        Ok(ranges) => add_ranges(line, ranges.as_slice()),
-        Err(_) => line.run_out(),
-    }
-    match builder.build(alloc, link, live, start) {
-        Ok((blocks, users)) => {
-            add_sets(line, blocks.as_slice());
-            add_users(line, users.as_slice())
-        }
-        Err(_) => line.run_out(),
-    }
+    let ranges = builder.collect_primary_ranges(alloc, link, live, start)?;
+    add_ranges(line, ranges.as_slice())?;
+    let (blocks, users) = builder.build(alloc, link, live, start)?;
+    add_sets(line, blocks.as_slice())?;
+    add_users(line, users.as_slice())
 }
 
 /// Adds what is planned for what is live of a link.
-fn add_live(alloc: Global, line: &mut Line, link: &LinkInput, live: &Live, start: u64)
+fn add_live(
+    alloc: Global,
+    line: &mut String,
+    link: &LinkInput,
+    live: &Live,
+    start: u64,
+) -> Result<(), AllocError>
     requires { IsWellFormed link.now }
 {
     Small64Arch.configs_are_lawful();
@@ -138,32 +150,40 @@ fn add_live(alloc: Global, line: &mut Line, link: &LinkInput, live: &Live, start
 /// Adds what is planned for what is live.
 fn add_traversed(
     alloc: Global,
-    line: &mut Line,
+    line: &mut String,
     link: &LinkInput,
     live: &Result<Live, GcError>,
     start: u64,
-)
+) -> Result<(), AllocError>
     requires { IsWellFormed link.now }
 {
     match live {
         Ok(live) => add_live(alloc, line, link, live, start),
-        Err(GcError::References(_)) => line.push_str("faults"),
-        Err(GcError::NoMemory) => line.run_out(),
+        Err(_) => line.push_str("faults"),
     }
 }
 
 /// Adds what is planned for a link.
-fn add_link(alloc: Global, line: &mut Line, link: &LinkInput, start: u64) {
+fn add_link(
+    alloc: Global,
+    line: &mut String,
+    link: &LinkInput,
+    start: u64,
+) -> Result<(), AllocError> {
     if check_link(link).is_err() {
-        line.push_str("bad link")
-    } else {
-        let live = traverse_alone(alloc, link);
-        add_traversed(alloc, line, link, &live, start)
+        return line.push_str("bad link");
     }
+    let live = traverse_alone(alloc, link);
+    add_traversed(alloc, line, link, &live, start)
 }
 
 /// Adds what is planned for a link that there is.
-fn add_found(alloc: Global, line: &mut Line, link: &Result<LinkInput, InputError>, start: u64) {
+fn add_found(
+    alloc: Global,
+    line: &mut String,
+    link: &Result<LinkInput, InputError>,
+    start: u64,
+) -> Result<(), AllocError> {
     match link {
         Ok(link) => add_link(alloc, line, link, start),
         Err(error) => write!(line, "no link: {error}"),
@@ -171,13 +191,13 @@ fn add_found(alloc: Global, line: &mut Line, link: &Result<LinkInput, InputError
 }
 
 /// Adds what is planned for the link of a text.
-pub fn add_planned(alloc: Global, line: &mut Line, text: &str) {
+pub fn add_planned(alloc: Global, line: &mut String, text: &str) -> Result<(), AllocError> {
     let (start, text) = text.split_once(' ').unwrap_or((text, ""));
     let link = read_link(alloc, text.as_bytes());
     add_found(alloc, line, &link, number(start))
 }
 
 #[test]
-fn thunks_are_planned_by_windows(rt: HostRuntime) -> Result<(), Failed> {
-    expect_rows(&rt, rt.alloc(), &Asked::Thunks(OfThunks::Planned), PLANNED)
+fn thunks_are_planned_by_windows(rt: HostRuntime) -> Result<(), Fail> {
+    expect_rows(&rt, rt.alloc(), Asked::Thunks(OfThunks::Planned), PLANNED)
 }

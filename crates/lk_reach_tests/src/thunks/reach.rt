@@ -2,9 +2,9 @@
 
 use crate::rows::{Asked, expect_rows};
 use crate::thunks::{OfThunks, number};
-use lk_test_rows::{Failed, Line};
 use lk_thunks::{BranchSite, OutOfReach, check_reach};
 use std::alloc::{AllocError, Global};
+use std::test::Fail;
 
 /// No branch; one whose target is a range away, one byte less and one more, on either side; by a thunk; the first of two that
 /// don't; one over all of memory; and nothing is near without a range.
@@ -41,7 +41,7 @@ fn branches_of(alloc: Global, text: &str) -> Result<Vec<BranchSite>, AllocError>
 }
 
 /// Adds whether they reach.
-fn add_told(line: &mut Line, told: Result<(), OutOfReach>) {
+fn add_told(line: &mut String, told: Result<(), OutOfReach>) -> Result<(), AllocError> {
     match told {
         Ok(()) => line.push_str("all reach"),
         Err(fault) => write!(line, "{fault}"),
@@ -49,15 +49,13 @@ fn add_told(line: &mut Line, told: Result<(), OutOfReach>) {
 }
 
 /// Adds whether the branches of a text reach.
-pub fn add_reach(alloc: Global, line: &mut Line, text: &str) {
+pub fn add_reach(alloc: Global, line: &mut String, text: &str) -> Result<(), AllocError> {
     let (range, branches) = text.split_once(':').unwrap_or((text, ""));
-    match branches_of(alloc, branches) {
-        Ok(branches) => add_told(line, check_reach(branches.as_slice(), number(range))),
-        Err(_) => line.run_out(),
-    }
+    let branches = branches_of(alloc, branches)?;
+    add_told(line, check_reach(branches.as_slice(), number(range)))
 }
 
 #[test]
-fn branches_reach_what_is_nearer_than_the_range(rt: HostRuntime) -> Result<(), Failed> {
-    expect_rows(&rt, rt.alloc(), &Asked::Thunks(OfThunks::Reach), REACH)
+fn branches_reach_what_is_nearer_than_the_range(rt: HostRuntime) -> Result<(), Fail> {
+    expect_rows(&rt, rt.alloc(), Asked::Thunks(OfThunks::Reach), REACH)
 }

@@ -13,9 +13,10 @@ use lk_gc::{
     LocalWorkQueue, SymbolRequestHandler, can_export_global_def, export_symbols_mode, traverse,
 };
 use lk_link::{FileId, InputSymbol, LinkInput, NoGate, SymbolId};
-use lk_test_rows::{Failed, Line};
-use std::alloc::Global;
+use lk_test_rows::add;
+use std::alloc::{AllocError, Global};
 use std::sync::Wait;
+use std::test::Fail;
 use std::thread::Threads;
 
 /// What each file and each group is called, and what waits once each symbol of a file that stands for itself is loaded: of the prelude and of
@@ -84,230 +85,249 @@ fn stands_for_itself(link: &LinkInput, symbol: SymbolId) -> bool
 /// Adds what waits once a symbol of a file is loaded, if it stands for itself.
 fn add_load<S: SymbolRequestHandler>(
     alloc: Global,
-    line: &mut Line,
+    line: &mut String,
     link: &LinkInput,
     state: &S,
     symbol: SymbolId,
-)
+) -> Result<(), AllocError>
     requires well_formed { IsWellFormed link.now }
     requires own { IsWithin (S.symbols state.now) symbol }
 {
     if stands_for_itself(link, symbol) {
         let mut queue = LocalWorkQueue::new(alloc);
-        match state.load_symbol(symbol, link, &mut queue) {
-            Ok(()) => line.add("loads", &queue.as_slice()),
-            Err(_) => line.run_out(),
-        }
+        state.load_symbol(symbol, link, &mut queue)?;
+        add(line, "loads", &queue.as_slice())?;
     }
+    Ok(())
 }
 
 /// Adds what waits once the symbols of a file are loaded.
-fn add_loads<S: SymbolRequestHandler>(alloc: Global, line: &mut Line, link: &LinkInput, state: &S)
+fn add_loads<S: SymbolRequestHandler>(
+    alloc: Global,
+    line: &mut String,
+    link: &LinkInput,
+    state: &S,
+) -> Result<(), AllocError>
     requires { IsWellFormed link.now }
 {
     let range = state.symbol_id_range();
     for place in 0..range.len() {
         let symbol = range.offset_to_id(place);
         if range.contains(symbol) {
-            add_load(alloc, line, link, state, symbol);
+            add_load(alloc, line, link, state, symbol)?;
         }
     }
+    Ok(())
 }
 
 /// Adds what a file is called, and what its symbols load.
-fn add_state(alloc: Global, line: &mut Line, link: &LinkInput, state: &FileLayoutState<'_>)
+fn add_state(
+    alloc: Global,
+    line: &mut String,
+    link: &LinkInput,
+    state: &FileLayoutState<'_>,
+) -> Result<(), AllocError>
     requires { IsWellFormed link.now }
 {
-    line.add_space();
-    write!(line, "{state}");
+    if !line.is_empty() {
+        line.push(' ')?;
+    }
+    write!(line, "{state}")?;
     match state {
         FileLayoutState::Prelude(state) => add_loads(alloc, line, link, state),
         FileLayoutState::Object(state) => add_loads(alloc, line, link, state),
         FileLayoutState::Dynamic(state) => add_loads(alloc, line, link, state),
         FileLayoutState::SyntheticSymbols(state) => add_loads(alloc, line, link, state),
         FileLayoutState::LinkerScript(state) => add_loads(alloc, line, link, state),
-        FileLayoutState::Epilogue(_) | FileLayoutState::NotLoaded => {}
+        FileLayoutState::Epilogue(_) | FileLayoutState::NotLoaded => Ok(()),
     }
 }
 
 /// Adds the same of a file by its number, if there is one.
-fn add_file(alloc: Global, line: &mut Line, link: &LinkInput, group: u32, file: u32)
+fn add_file(
+    alloc: Global,
+    line: &mut String,
+    link: &LinkInput,
+    group: u32,
+    file: u32,
+) -> Result<(), AllocError>
     requires { IsWellFormed link.now }
 {
-    if let Some(state) = FileLayoutState::of_file(link, FileId { group, file }) {
-        add_state(alloc, line, link, &state);
+    match FileLayoutState::of_file(link, FileId { group, file }) {
+        Some(state) => add_state(alloc, line, link, &state),
+        None => Ok(()),
     }
 }
 
 /// Adds what a group is called.
-fn add_group_name(line: &mut Line, link: &LinkInput, group: u32) {
-    if let Some(state) = GroupState::of_group(link, group) {
-        write!(line, " group {state}");
+fn add_group_name(line: &mut String, link: &LinkInput, group: u32) -> Result<(), AllocError> {
+    match GroupState::of_group(link, group) {
+        Some(state) => write!(line, " group {state}"),
+        None => Ok(()),
     }
 }
 
 /// Adds the same of the first files of two groups of a link that is well formed, behind them the epilogue, and what the groups are called.
-pub fn add_states(alloc: Global, line: &mut Line, link: &LinkInput) {
+pub fn add_states(alloc: Global, line: &mut String, link: &LinkInput) -> Result<(), AllocError> {
     if check_link(link).is_err() {
-        return;
+        return Ok(());
     }
     for group in 0..2 {
         for file in 0..3 {
-            add_file(alloc, line, link, group, file);
+            add_file(alloc, line, link, group, file)?;
         }
     }
     let behind = FileLayoutState::Epilogue(EpilogueLayoutState {});
-    write!(line, " {behind}");
+    write!(line, " {behind}")?;
     for group in 0..3 {
-        add_group_name(line, link, group);
+        add_group_name(line, link, group)?;
     }
+    Ok(())
 }
 
 /// Adds the name of a symbol, and in which modes it can be exported.
-fn add_export(line: &mut Line, link: &LinkInput, symbol: SymbolId, own: &InputSymbol) {
-    line.push_str(" ");
-    line.push_str(own.name.as_str());
+fn add_export(
+    line: &mut String,
+    link: &LinkInput,
+    symbol: SymbolId,
+    own: &InputSymbol,
+) -> Result<(), AllocError> {
+    line.push(' ')?;
+    line.push_str(own.name.as_str())?;
     if can_export_global_def(
         link,
         symbol,
         own.flags,
         ExportSymbolsMode::MatchingExportList,
     ) {
-        line.push_str(" list");
+        line.push_str(" list")?;
     }
     if can_export_global_def(link, symbol, own.flags, ExportSymbolsMode::All) {
-        line.push_str(" all");
+        line.push_str(" all")?;
     }
+    Ok(())
 }
 
 /// Adds in which mode three files of the first group export, and which of the first symbols can be exported.
-pub fn add_exports(line: &mut Line, link: &LinkInput) {
-    line.push_str("modes");
+pub fn add_exports(line: &mut String, link: &LinkInput) -> Result<(), AllocError> {
+    line.push_str("modes")?;
     for file in 0..3 {
         let mode = export_symbols_mode(link, FileId { group: 0, file });
-        write!(line, " {mode:?}");
+        write!(line, " {mode:?}")?;
     }
     for number in 0..8 {
         let symbol = SymbolId::from_u32(number);
         if let Some(own) = link.groups.symbol(symbol) {
-            add_export(line, link, symbol, own);
+            add_export(line, link, symbol, own)?;
         }
     }
+    Ok(())
 }
 
 /// Adds what is live, with its flags and the output sections that it keeps.
-fn add_live(line: &mut Line, live: &Live) {
-    line.add("live", &live.marks.as_slice());
-    line.push_str(" flags [");
+fn add_live(line: &mut String, live: &Live) -> Result<(), AllocError> {
+    add(line, "live", &live.marks.as_slice())?;
+    line.push_str(" flags [")?;
     let mut between = "";
     for flags in live.flags.as_slice() {
         let word = flags.0;
-        write!(line, "{between}{word}");
+        write!(line, "{between}{word}")?;
         between = ", ";
     }
-    line.push_str("]");
-    line.add("kept", &live.kept.as_slice())
+    line.push(']')?;
+    add(line, "kept", &live.kept.as_slice())
 }
 
-/// Adds what is found.
-fn add_found(line: &mut Line, found: &Result<Live, GcError>) {
-    match found {
-        Ok(live) => add_live(line, live),
-        Err(GcError::References(faults)) => line.add("faults", &faults.as_slice()),
-        Err(GcError::NoMemory) => line.run_out(),
+/// Adds what so many workers find.
+fn add_found(
+    rt: &(impl Threads + Wait + Sync),
+    alloc: Global,
+    line: &mut String,
+    link: &LinkInput,
+    workers: u32,
+) -> Result<(), AllocError>
+    requires { IsWellFormed link.now }
+{
+    match traverse(rt, alloc, link, workers, &NoGate) {
+        Ok(live) => add_live(line, &live),
+        Err(GcError::References(faults)) => add(line, "faults", &faults.as_slice()),
+        Err(GcError::NoMemory) => Err(AllocError),
     }
 }
 
-/// Whether the same is live, with the same flags and output sections, or the same references are at fault.
-fn is_same(found: &Result<Live, GcError>, alone: &Result<Live, GcError>) -> bool {
-    match (found, alone) {
-        (Ok(live), Ok(other)) => {
-            live.marks.as_slice() == other.marks.as_slice()
-                && live.flags.as_slice() == other.flags.as_slice()
-                && live.kept.as_slice() == other.kept.as_slice()
-        }
-        (Err(GcError::References(faults)), Err(GcError::References(others))) => {
-            faults.as_slice() == others.as_slice()
-        }
-        _ => false,
-    }
-}
-
-/// Adds what so many workers find, where that is something else than what none finds.
+/// Adds what so many workers find, where that is something else.
 fn add_other(
     rt: &(impl Threads + Wait + Sync),
     alloc: Global,
-    line: &mut Line,
+    line: &mut String,
     link: &LinkInput,
     workers: u32,
-    alone: &Result<Live, GcError>,
-)
+) -> Result<(), AllocError>
     requires { IsWellFormed link.now }
 {
-    let found = traverse(rt, alloc, link, workers, &NoGate);
-    if !is_same(&found, alone) {
-        let mut other = Line::new(alloc);
-        add_found(&mut other, &found);
-        line.add_line("other", &other);
+    let mut other = String::new(alloc);
+    add_found(rt, alloc, &mut other, link, workers)?;
+    if other.as_str() != line.as_str() {
+        add(line, "other", &other)?;
     }
+    Ok(())
 }
 
 /// Adds what no worker finds, and what others find where that is something else.
 fn add_all_found(
     rt: &(impl Threads + Wait + Sync),
     alloc: Global,
-    line: &mut Line,
+    line: &mut String,
     link: &LinkInput,
-)
+) -> Result<(), AllocError>
     requires { IsWellFormed link.now }
 {
-    let alone = traverse(rt, alloc, link, 0, &NoGate);
-    add_found(line, &alone);
-    add_other(rt, alloc, line, link, 1, &alone);
-    add_other(rt, alloc, line, link, 2, &alone);
-    add_other(rt, alloc, line, link, 8, &alone);
-    add_other(rt, alloc, line, link, 64, &alone)
+    add_found(rt, alloc, line, link, 0)?;
+    add_other(rt, alloc, line, link, 1)?;
+    add_other(rt, alloc, line, link, 2)?;
+    add_other(rt, alloc, line, link, 8)?;
+    add_other(rt, alloc, line, link, 64)
 }
 
 /// Adds what any number of workers finds in a link that is well formed.
 pub fn add_traversals(
     rt: &(impl Threads + Wait + Sync),
     alloc: Global,
-    line: &mut Line,
+    line: &mut String,
     link: &LinkInput,
-) {
+) -> Result<(), AllocError> {
     if check_link(link).is_err() {
-        return;
+        return Ok(());
     }
     add_all_found(rt, alloc, line, link)
 }
 
 #[test]
-fn symbols_load(rt: HostRuntime) -> Result<(), Failed> {
+fn symbols_load(rt: HostRuntime) -> Result<(), Fail> {
     expect_rows(
         &rt,
         rt.alloc(),
-        &Asked::Traversal(OfTraversal::States),
+        Asked::Traversal(OfTraversal::States),
         LOADS,
     )
 }
 
 #[test]
-fn symbols_can_be_exported(rt: HostRuntime) -> Result<(), Failed> {
+fn symbols_can_be_exported(rt: HostRuntime) -> Result<(), Fail> {
     expect_rows(
         &rt,
         rt.alloc(),
-        &Asked::Traversal(OfTraversal::Exports),
+        Asked::Traversal(OfTraversal::Exports),
         EXPORTS,
     )
 }
 
 #[test]
-fn every_number_of_workers_finds_the_same(rt: HostRuntime) -> Result<(), Failed> {
+fn every_number_of_workers_finds_the_same(rt: HostRuntime) -> Result<(), Fail> {
     expect_rows(
         &rt,
         rt.alloc(),
-        &Asked::Traversal(OfTraversal::Traversals),
+        Asked::Traversal(OfTraversal::Traversals),
         TRAVERSALS,
     )
 }

@@ -7,8 +7,9 @@ use crate::traversal::OfTraversal;
 use lk_check::check_link;
 use lk_link::{FileId, FileRef, LinkInput, SymbolId};
 use lk_live::{GcError, Live, Unit, file_roots, primary_references, successors, traverse_alone};
-use lk_test_rows::{Failed, Line};
-use std::alloc::Global;
+use lk_test_rows::add;
+use std::alloc::{AllocError, Global};
+use std::test::Fail;
 
 /// What the prelude and an object ask for, and what the object's symbols and sections do.
 const ASKS: &str = r#"
@@ -94,97 +95,107 @@ const REACHED: &str = r#"
 const OBJECT: FileId = FileId { group: 1, file: 0 };
 
 /// Adds what a file asks for by itself.
-fn add_roots(line: &mut Line, link: &LinkInput, id: FileId)
+fn add_roots(line: &mut String, link: &LinkInput, id: FileId) -> Result<(), AllocError>
     requires { IsWellFormed link.now }
 {
     if let Some(file) = link.groups.file(id) {
         for ask in file_roots(link, FileRef { id, file }) {
-            line.add("root", &ask);
+            add(line, "root", &ask)?;
         }
     }
+    Ok(())
 }
 
 /// Adds what a unit asks for.
-fn add_successors(line: &mut Line, link: &LinkInput, unit: Unit)
+fn add_successors(line: &mut String, link: &LinkInput, unit: Unit) -> Result<(), AllocError>
     requires { IsWellFormed link.now }
 {
     for ask in successors(link, unit) {
-        line.add("ask", &ask);
+        add(line, "ask", &ask)?;
     }
+    Ok(())
 }
 
 /// Adds what the first two symbols and the object's first two sections ask for.
-fn add_units(line: &mut Line, link: &LinkInput)
+fn add_units(line: &mut String, link: &LinkInput) -> Result<(), AllocError>
     requires { IsWellFormed link.now }
 {
     for number in 0..2 {
-        add_successors(line, link, Unit::Sym(SymbolId::from_u32(number)));
+        add_successors(line, link, Unit::Sym(SymbolId::from_u32(number)))?;
     }
     for index in 0..2 {
-        add_successors(line, link, Unit::Sec(OBJECT, index));
+        add_successors(line, link, Unit::Sec(OBJECT, index))?;
     }
+    Ok(())
 }
 
 /// Adds what the prelude and the object ask for, and what units do, of a link that is well formed.
-pub fn add_asks(line: &mut Line, link: &LinkInput) {
+pub fn add_asks(line: &mut String, link: &LinkInput) -> Result<(), AllocError> {
     if check_link(link).is_err() {
-        return;
+        return Ok(());
     }
-    add_roots(line, link, FileId { group: 0, file: 0 });
-    add_roots(line, link, OBJECT);
+    add_roots(line, link, FileId { group: 0, file: 0 })?;
+    add_roots(line, link, OBJECT)?;
     add_units(line, link)
 }
 
 /// Adds what became of each section of groups and files that aren't too many.
-fn add_slots(line: &mut Line, link: &LinkInput, live: &Live)
+fn add_slots(line: &mut String, link: &LinkInput, live: &Live) -> Result<(), AllocError>
     requires { IsWellFormed link.now }
 {
     if link.groups.len() <= 65535 && link.groups.file_count() <= 16777216 {
         for input in link.groups.inputs() {
-            line.add("slot", &live.slot(link, input.file, input.index));
+            add(line, "slot", &live.slot(link, input.file, input.index))?;
         }
     }
+    Ok(())
 }
 
 /// Adds the flags of each symbol.
-fn add_flags(line: &mut Line, live: &Live) {
+fn add_flags(line: &mut String, live: &Live) -> Result<(), AllocError> {
     for flags in live.flags.as_slice() {
-        line.add("flags", &flags.0);
+        add(line, "flags", &flags.0)?;
     }
+    Ok(())
 }
 
 /// Adds what became of sections and symbols.
-fn add_kept(alloc: Global, line: &mut Line, link: &LinkInput, live: &Live)
+fn add_kept(
+    alloc: Global,
+    line: &mut String,
+    link: &LinkInput,
+    live: &Live,
+) -> Result<(), AllocError>
     requires { IsWellFormed link.now }
 {
-    add_slots(line, link, live);
-    add_flags(line, live);
-    line.add_made("primary", &primary_references(alloc, link, live))
+    add_slots(line, link, live)?;
+    add_flags(line, live)?;
+    add(line, "primary", &primary_references(alloc, link, live)?)
 }
 
 /// Adds what a traversal finds, of a link that is well formed.
-pub fn add_reached(alloc: Global, line: &mut Line, link: &LinkInput) {
+pub fn add_reached(alloc: Global, line: &mut String, link: &LinkInput) -> Result<(), AllocError> {
     if check_link(link).is_err() {
-        return;
+        return Ok(());
     }
     match traverse_alone(alloc, link) {
         Ok(live) => add_kept(alloc, line, link, &live),
-        Err(GcError::References(faults)) => line.add("faults", &faults.as_slice()),
-        Err(GcError::NoMemory) => line.run_out(),
+        Err(GcError::References(faults)) => add(line, "faults", &faults.as_slice()),
+        Err(GcError::NoMemory) => Err(AllocError),
     }
 }
 
 #[test]
-fn roots_and_units_ask(rt: HostRuntime) -> Result<(), Failed> {
-    expect_rows(&rt, rt.alloc(), &Asked::Traversal(OfTraversal::Asks), ASKS)
+fn roots_and_units_ask(rt: HostRuntime) -> Result<(), Fail> {
+    expect_rows(&rt, rt.alloc(), Asked::Traversal(OfTraversal::Asks), ASKS)
 }
 
 #[test]
-fn what_is_asked_for_is_reached(rt: HostRuntime) -> Result<(), Failed> {
+fn what_is_asked_for_is_reached(rt: HostRuntime) -> Result<(), Fail> {
     expect_rows(
         &rt,
         rt.alloc(),
-        &Asked::Traversal(OfTraversal::Reached),
+        Asked::Traversal(OfTraversal::Reached),
         REACHED,
     )
 }

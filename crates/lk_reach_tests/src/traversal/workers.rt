@@ -2,7 +2,6 @@
 
 ghost use Rattle.std.specs.Prelude.{◌≡◌, IfOk, Some};
 ghost use Rattle.lk_link.specs.WellFormed.{IsWellFormed};
-ghost use Rattle.lk_reach.specs.Marks.{IsWalked};
 ghost use Rattle.lk_reach.specs.declared.units.Unit.TheVariants.{Sym};
 ghost use Rattle.lk_slot_link.specs.LinkGraphs.{unit_group};
 ghost use Rattle.lk_workers.specs.Asked.{AreListsOf};
@@ -17,11 +16,12 @@ use lk_gc::{GcError, traverse};
 use lk_link::marks::is_marked;
 use lk_link::{LinkInput, NoGate, SymbolId};
 use lk_reach::{Unit, Walk};
-use lk_test_rows::{Failed, Line, LockStep};
+use lk_test_rows::{LockStep, add};
 use lk_workers::{Closed, LocalWorkQueue, Traversal, WorkItem, WorkerSlot, walk_by_workers};
 use std::alloc::{AllocError, Global};
 use std::marker::Brand;
 use std::sync::Wait;
+use std::test::Fail;
 use std::thread::Threads;
 
 /// Whether each group is closed once all ran in turn, as often as there are units, and whether what was done by then, with its
@@ -82,16 +82,22 @@ fn closed_after<J: Reach>(
     Ok(closed)
 }
 
-/// Adds whether each group is closed, and whether what is done, with its flags, is what the walk of one thread finds.
-fn add_closed<J: Reach>(line: &mut Line, link: &LinkInput, closed: &Closed<J>, walk: &Walk)
+/// Adds whether each group is closed, and whether what is done, with its flags, is what one thread finds.
+fn add_closed<J: Reach>(
+    alloc: Global,
+    line: &mut String,
+    link: &LinkInput,
+    closed: &Closed<J>,
+) -> Result<(), AllocError>
     requires { AreListsOf J.lists link.now }
 {
     for group in 0..u32::try_from(link.groups.len()).unwrap_or(0) {
-        line.add("closed", &closed.is_closed(link, group));
+        add(line, "closed", &closed.is_closed(link, group))?;
     }
-    line.add("whole", &closed.is_whole(link));
+    add(line, "whole", &closed.is_whole(link))?;
+    let walk = Walk::over(alloc, link)?;
     let alike = closed.done() == walk.marks.as_slice() && closed.words() == walk.words.as_slice();
-    line.add("alike", &alike)
+    add(line, "alike", &alike)
 }
 
 /// The group of the first symbol.
@@ -104,7 +110,7 @@ fn first_group<J: Reach>(alloc: Global, link: &LinkInput) -> Result<u32, AllocEr
 }
 
 /// Adds what a slot answers that is left the first symbol.
-fn add_left<J: Reach>(line: &mut Line, slot: &mut WorkerSlot<J>)
+fn add_left<J: Reach>(line: &mut String, slot: &mut WorkerSlot<J>) -> Result<(), AllocError>
     requires own { IsOwn J.lists slot.old.group (LoadGlobalSymbol 0) }
     ensures group { slot.new.group ≡ slot.old.group }
 {
@@ -113,72 +119,66 @@ fn add_left<J: Reach>(line: &mut Line, slot: &mut WorkerSlot<J>)
         Ok(was_parked) => Some(was_parked),
         Err((_item, _error)) => None,
     };
-    line.add("left", &left)
+    add(line, "left", &left)
 }
 
 /// Adds what the slot of the first symbol's group answers: parked, left the symbol twice, and asked to park with what was left and
 /// without it.
-fn add_slot<J: Reach>(alloc: Global, line: &mut Line, group: u32)
+fn add_slot<J: Reach>(alloc: Global, line: &mut String, group: u32) -> Result<(), AllocError>
     requires { IsOwn J.lists group (LoadGlobalSymbol 0) }
 {
     let mut items = LocalWorkQueue::new(alloc);
     let mut slot = WorkerSlot::<J>::new(alloc, group);
-    line.add("parked", &slot.park_or_swap(&mut items));
+    add(line, "parked", &slot.park_or_swap(&mut items))?;
     let mut items = LocalWorkQueue::new(alloc);
-    add_left(line, &mut slot);
-    add_left(line, &mut slot);
-    line.add("parked", &slot.park_or_swap(&mut items));
-    line.add("item", &items.pop());
-    line.add("item", &items.pop());
+    add_left(line, &mut slot)?;
+    add_left(line, &mut slot)?;
+    add(line, "parked", &slot.park_or_swap(&mut items))?;
+    add(line, "item", &items.pop())?;
+    add(line, "item", &items.pop())?;
     if items.is_empty() {
-        line.add("parked", &slot.park_or_swap(&mut items));
+        add(line, "parked", &slot.park_or_swap(&mut items))?;
     }
+    Ok(())
 }
 
 /// Adds what the slot of the first symbol's group answers, if that symbol is reached.
-fn add_first_slot<J: Reach>(alloc: Global, line: &mut Line, link: &LinkInput, walk: &Walk)
-    requires link { AreListsOf J.lists link.now }
-    requires walked { IsWalked link.now walk.now }
-{
-    if link.groups.symbol_count() == 0 || !is_marked(walk.marks.as_slice(), 0) {
-        return;
-    }
-    match first_group::<J>(alloc, link) {
-        Ok(group) => add_slot::<J>(alloc, line, group),
-        Err(_) => line.run_out(),
-    }
-}
-
-/// Adds what groups come to that run in turn, and what a slot answers, by the walk of one thread.
-fn add_by_walk<J: Reach>(
-    rt: &impl Wait,
+fn add_first_slot<J: Reach>(
     alloc: Global,
-    line: &mut Line,
+    line: &mut String,
     link: &LinkInput,
-    walk: &Walk,
-)
-    requires link { AreListsOf J.lists link.now }
-    requires walked { IsWalked link.now walk.now }
+) -> Result<(), AllocError>
+    requires { AreListsOf J.lists link.now }
 {
-    match closed_after::<J>(rt, alloc, link) {
-        Ok(closed) => add_closed(line, link, &closed, walk),
-        Err(_) => line.run_out(),
+    let walk = Walk::over(alloc, link)?;
+    if link.groups.symbol_count() == 0 || !is_marked(walk.marks.as_slice(), 0) {
+        return Ok(());
     }
-    add_first_slot::<J>(alloc, line, link, walk)
+    let group = first_group::<J>(alloc, link)?;
+    add_slot::<J>(alloc, line, group)
 }
 
 /// Adds what groups come to that run in turn, and what a slot answers.
-fn add_turns<J: Reach>(rt: &impl Wait, alloc: Global, line: &mut Line, link: &LinkInput)
+fn add_turns<J: Reach>(
+    rt: &impl Wait,
+    alloc: Global,
+    line: &mut String,
+    link: &LinkInput,
+) -> Result<(), AllocError>
     requires { AreListsOf J.lists link.now }
 {
-    match Walk::over(alloc, link) {
-        Ok(walk) => add_by_walk::<J>(rt, alloc, line, link, &walk),
-        Err(_) => line.run_out(),
-    }
+    let closed = closed_after::<J>(rt, alloc, link)?;
+    add_closed(alloc, line, link, &closed)?;
+    add_first_slot::<J>(alloc, line, link)
 }
 
 /// The same with the lists of the link.
-fn add_own_turns<R: Wait>(rt: &R, alloc: Global, line: &mut Line, link: &LinkInput)
+fn add_own_turns<R: Wait>(
+    rt: &R,
+    alloc: Global,
+    line: &mut String,
+    link: &LinkInput,
+) -> Result<(), AllocError>
     requires { IsWellFormed link.now }
 {
     add_turns::<Brand>(rt, alloc, line, link)
@@ -199,53 +199,58 @@ fn set_in(marks: &[bool]) -> usize {
 fn add_lock_step(
     rt: &(impl Threads + Wait + Sync),
     alloc: Global,
-    line: &mut Line,
+    line: &mut String,
     link: &LinkInput,
-)
+) -> Result<(), AllocError>
     requires { IsWellFormed link.now }
 {
     let gate = LockStep::new();
     match traverse(rt, alloc, link, 2, &gate) {
-        Ok(live) => line.add("live", &set_in(live.marks.as_slice())),
-        Err(GcError::References(faults)) => line.add("faults", &faults.as_slice()),
-        Err(GcError::NoMemory) => line.run_out(),
+        Ok(live) => add(line, "live", &set_in(live.marks.as_slice()))?,
+        Err(GcError::References(faults)) => add(line, "faults", &faults.as_slice())?,
+        Err(GcError::NoMemory) => return Err(AllocError),
     }
-    line.add("in step", &gate.was_kept())
+    add(line, "in step", &gate.was_kept())
 }
 
 /// Adds whether so many workers answer what is reached of a link.
 fn add_walk(
     rt: &(impl Threads + Wait + Sync),
     alloc: Global,
-    line: &mut Line,
+    line: &mut String,
     link: &LinkInput,
     workers: u32,
-)
+) -> Result<(), AllocError>
     requires { IsWellFormed link.now }
 {
     let walked = walk_by_workers(rt, alloc, link, workers, &NoGate);
-    line.add("workers", &workers);
-    line.add("answer", &walked.is_ok())
+    add(line, "workers", &workers)?;
+    add(line, "answer", &walked.is_ok())
 }
 
 /// Adds whether no, one and four workers answer what is reached.
 fn add_all_walks(
     rt: &(impl Threads + Wait + Sync),
     alloc: Global,
-    line: &mut Line,
+    line: &mut String,
     link: &LinkInput,
-)
+) -> Result<(), AllocError>
     requires { IsWellFormed link.now }
 {
-    add_walk(rt, alloc, line, link, 0);
-    add_walk(rt, alloc, line, link, 1);
+    add_walk(rt, alloc, line, link, 0)?;
+    add_walk(rt, alloc, line, link, 1)?;
     add_walk(rt, alloc, line, link, 4)
 }
 
 /// Adds what groups come to that run in turn, of a link that is well formed.
-pub fn add_by_turns(rt: &impl Wait, alloc: Global, line: &mut Line, link: &LinkInput) {
+pub fn add_by_turns(
+    rt: &impl Wait,
+    alloc: Global,
+    line: &mut String,
+    link: &LinkInput,
+) -> Result<(), AllocError> {
     if check_link(link).is_err() {
-        return;
+        return Ok(());
     }
     add_own_turns(rt, alloc, line, link)
 }
@@ -254,11 +259,11 @@ pub fn add_by_turns(rt: &impl Wait, alloc: Global, line: &mut Line, link: &LinkI
 pub fn add_in_lock_step(
     rt: &(impl Threads + Wait + Sync),
     alloc: Global,
-    line: &mut Line,
+    line: &mut String,
     link: &LinkInput,
-) {
+) -> Result<(), AllocError> {
     if check_link(link).is_err() {
-        return;
+        return Ok(());
     }
     add_lock_step(rt, alloc, line, link)
 }
@@ -267,41 +272,31 @@ pub fn add_in_lock_step(
 pub fn add_walks(
     rt: &(impl Threads + Wait + Sync),
     alloc: Global,
-    line: &mut Line,
+    line: &mut String,
     link: &LinkInput,
-) {
+) -> Result<(), AllocError> {
     if check_link(link).is_err() {
-        return;
+        return Ok(());
     }
     add_all_walks(rt, alloc, line, link)
 }
 
 #[test]
-fn groups_run_in_turn(rt: HostRuntime) -> Result<(), Failed> {
-    expect_rows(
-        &rt,
-        rt.alloc(),
-        &Asked::Traversal(OfTraversal::Turns),
-        TURNS,
-    )
+fn groups_run_in_turn(rt: HostRuntime) -> Result<(), Fail> {
+    expect_rows(&rt, rt.alloc(), Asked::Traversal(OfTraversal::Turns), TURNS)
 }
 
 #[test]
-fn two_workers_run_in_lock_step(rt: HostRuntime) -> Result<(), Failed> {
+fn two_workers_run_in_lock_step(rt: HostRuntime) -> Result<(), Fail> {
     expect_rows(
         &rt,
         rt.alloc(),
-        &Asked::Traversal(OfTraversal::LockStep),
+        Asked::Traversal(OfTraversal::LockStep),
         LOCK_STEP,
     )
 }
 
 #[test]
-fn no_worker_finds_nothing(rt: HostRuntime) -> Result<(), Failed> {
-    expect_rows(
-        &rt,
-        rt.alloc(),
-        &Asked::Traversal(OfTraversal::Walks),
-        WALKS,
-    )
+fn no_worker_finds_nothing(rt: HostRuntime) -> Result<(), Fail> {
+    expect_rows(&rt, rt.alloc(), Asked::Traversal(OfTraversal::Walks), WALKS)
 }

@@ -1,7 +1,7 @@
 //! Each field of each object: values of a wrong shape, values at both ends of its range, and the order of the fields.
 
-use crate::rows::Asked;
-use lk_test_rows::{Failed, expect_rows};
+use crate::rows::{Asked, expect_rows};
+use std::test::Fail;
 
 /// Of each object first all its keys from each one on, in the order of the format, with values of a wrong shape: the first is
 /// at fault. Then each key that has no shape of its own, with right and wrong values.
@@ -330,6 +330,6 @@ null | 0 | "" | true | {} => at /groups/0/0/sections/0/relax
 "#;
 
 #[test]
-fn fields_have_shapes_and_an_order(rt: HostRuntime) -> Result<(), Failed> {
-    expect_rows(&rt, rt.alloc(), &Asked::Outcome, FIELDS)
+fn fields_have_shapes_and_an_order(rt: HostRuntime) -> Result<(), Fail> {
+    expect_rows(&rt, rt.alloc(), Asked::Outcome, FIELDS)
 }

@@ -1,7 +1,7 @@
 //! Items of fixed lists, and words, with values that are right and wrong there.
 
-use crate::rows::Asked;
-use lk_test_rows::{Failed, expect_rows};
+use crate::rows::{Asked, expect_rows};
+use std::test::Fail;
 
 /// Items of fixed lists, and words, with values that are right and wrong there.
 const ITEMS: &str = r#"
@@ -64,6 +64,6 @@ null => at /groups/0/0/sections/0/slot
 "#;
 
 #[test]
-fn items_and_words(rt: HostRuntime) -> Result<(), Failed> {
-    expect_rows(&rt, rt.alloc(), &Asked::Outcome, ITEMS)
+fn items_and_words(rt: HostRuntime) -> Result<(), Fail> {
+    expect_rows(&rt, rt.alloc(), Asked::Outcome, ITEMS)
 }

@@ -1,7 +1,7 @@
 //! Fixed lists: each is read with the items of its form, and with no more and no fewer.
 
-use crate::rows::Asked;
-use lk_test_rows::{Failed, expect_rows};
+use crate::rows::{Asked, expect_rows};
+use std::test::Fail;
 
 /// Places of fixed lists: values that are none; and for each form that is read there its first items, of which the next is
 /// missing and at fault; all of them; and one more, where the list itself is at fault.
@@ -235,6 +235,6 @@ true => at /groups/0/0/sections/0/relax/0
 "#;
 
 #[test]
-fn fixed_lists(rt: HostRuntime) -> Result<(), Failed> {
-    expect_rows(&rt, rt.alloc(), &Asked::Outcome, LISTS)
+fn fixed_lists(rt: HostRuntime) -> Result<(), Fail> {
+    expect_rows(&rt, rt.alloc(), Asked::Outcome, LISTS)
 }

@@ -1,7 +1,7 @@
 //! How deep a text may nest.
 
-use crate::rows::Asked;
-use lk_test_rows::{Failed, expect_rows};
+use crate::rows::{Asked, expect_rows};
+use std::test::Fail;
 
 /// Values of no meaning, and expressions that nest at the left and at the right. The description itself is one level, and
 /// the plan another.
@@ -18,6 +18,6 @@ const NESTED: &str = r#"
 "#;
 
 #[test]
-fn nests_up_to_127_levels(rt: HostRuntime) -> Result<(), Failed> {
-    expect_rows(&rt, rt.alloc(), &Asked::Outcome, NESTED)
+fn nests_up_to_127_levels(rt: HostRuntime) -> Result<(), Fail> {
+    expect_rows(&rt, rt.alloc(), Asked::Outcome, NESTED)
 }

@@ -4,7 +4,8 @@ use lk_link::{
     Expression, InputFile, InputGroups, InputSection, InputSymbol, Names, Options, OrderEvent,
     Plan, PlanSection, Region, SymbolPlacement, Text, Token,
 };
-use lk_test_rows::Line;
+use lk_test_rows::add;
+use std::alloc::AllocError;
 
 /// All names, or none where none are given.
 fn names_of(names: Option<&Names>) -> Option<&[Text]> {
@@ -22,7 +23,7 @@ fn tokens_of(expression: Option<&Expression>) -> Option<&[Token]> {
     }
 }
 
-pub fn add_options(line: &mut Line, options: &Options) {
+pub fn add_options(line: &mut String, options: &Options) -> Result<(), AllocError> {
     let truths = (
         options.gc,
         options.error_objects,
@@ -40,82 +41,85 @@ pub fn add_options(line: &mut Line, options: &Options) {
         options.entry,
     );
     let kinds = (options.output, options.discard);
-    line.add("options", &(kinds, truths, numbers));
+    add(line, "options", &(kinds, truths, numbers))?;
     let export = names_of(options.export_list.as_ref());
     let strip = options.strip_names.as_slice();
-    line.add("names", &(export, strip, &options.identity))
+    add(line, "names", &(export, strip, &options.identity))
 }
 
-pub fn add_plan(line: &mut Line, plan: &Plan) {
+pub fn add_plan(line: &mut String, plan: &Plan) -> Result<(), AllocError> {
     let truths = (plan.custom_base, plan.custom_phdrs, plan.phdrs_headers);
-    line.add("page", &(plan.page, plan.base.tokens(), truths));
+    add(line, "page", &(plan.page, plan.base.tokens(), truths))?;
     for section in plan.sections.as_slice() {
-        add_output_section(line, section);
+        add_output_section(line, section)?;
     }
     for region in plan.regions.as_slice() {
-        add_region(line, region);
+        add_region(line, region)?;
     }
     for event in plan.events.as_slice() {
-        add_event(line, event);
+        add_event(line, event)?;
     }
     let segments = plan.segments.as_slice();
-    line.add("segments", &(segments, plan.named, plan.singletons))
+    add(line, "segments", &(segments, plan.named, plan.singletons))
 }
 
-fn add_output_section(line: &mut Line, section: &PlanSection) {
+fn add_output_section(line: &mut String, section: &PlanSection) -> Result<(), AllocError> {
     let parts = section.parts.as_slice();
     let values = (section.attrs, section.align, parts, section.primary);
     let truths = (section.emit, section.top, section.counters);
     let place = (&section.region, tokens_of(section.at.as_ref()));
-    line.add("section", &(&section.name, values, truths, place))
+    add(line, "section", &(&section.name, values, truths, place))
 }
 
-fn add_region(line: &mut Line, region: &Region) {
+fn add_region(line: &mut String, region: &Region) -> Result<(), AllocError> {
     let (origin, length) = (region.origin.tokens(), region.length.tokens());
-    line.add("region", &(&region.name, origin, length))
+    add(line, "region", &(&region.name, origin, length))
 }
 
-fn add_event(line: &mut Line, event: &OrderEvent) {
+fn add_event(line: &mut String, event: &OrderEvent) -> Result<(), AllocError> {
     match event {
-        OrderEvent::SegmentStart(id) => line.add("seg", id),
-        OrderEvent::SegmentEnd(id) => line.add("endseg", id),
-        OrderEvent::Section(id) => line.add("sec", id),
-        OrderEvent::SetLocation(location) => line.add("loc", &location.tokens()),
+        OrderEvent::SegmentStart(id) => add(line, "seg", id),
+        OrderEvent::SegmentEnd(id) => add(line, "endseg", id),
+        OrderEvent::Section(id) => add(line, "sec", id),
+        OrderEvent::SetLocation(location) => add(line, "loc", &location.tokens()),
         OrderEvent::SetLocationRelative(location, section) => {
-            line.add("locrel", &(location.tokens(), section))
+            add(line, "locrel", &(location.tokens(), section))
         }
-        OrderEvent::SetSectionAddress(address) => line.add("addr", &address.tokens()),
+        OrderEvent::SetSectionAddress(address) => add(line, "addr", &address.tokens()),
     }
 }
 
-pub fn add_groups(line: &mut Line, groups: &InputGroups) {
-    line.add("groups", &groups.len());
+pub fn add_groups(line: &mut String, groups: &InputGroups) -> Result<(), AllocError> {
+    add(line, "groups", &groups.len())?;
     for group in groups.as_slice() {
-        line.push_str(" group");
+        line.push_str(" group")?;
         for file in group.as_slice() {
-            add_file(line, file);
+            add_file(line, file)?;
         }
     }
+    Ok(())
 }
 
-fn add_file(line: &mut Line, file: &InputFile) {
+fn add_file(line: &mut String, file: &InputFile) -> Result<(), AllocError> {
     let candidates = file.candidates.as_slice();
     let truths = (file.archive, file.export, file.check);
-    line.add("file", &(file.kind, &file.name, truths, candidates));
+    add(line, "file", &(file.kind, &file.name, truths, candidates))?;
     for symbol in file.symbols.as_slice() {
-        add_symbol(line, symbol);
+        add_symbol(line, symbol)?;
     }
     for section in file.sections.as_slice() {
-        add_input_section(line, section);
+        add_input_section(line, section)?;
     }
+    Ok(())
 }
 
-fn add_symbol(line: &mut Line, symbol: &InputSymbol) {
+fn add_symbol(line: &mut String, symbol: &InputSymbol) -> Result<(), AllocError> {
     let truths = (symbol.local, symbol.weak, symbol.hidden);
-    line.add(
+    add(
+        line,
         "symbol",
         &(&symbol.name, symbol.def, symbol.flags.0, truths),
-    );
+    )?;
     add_placement(line, &symbol.at)
 }
 
@@ -132,28 +136,29 @@ fn word_of(placement: &SymbolPlacement) -> &'static str {
     }
 }
 
-fn add_placement(line: &mut Line, placement: &SymbolPlacement) {
+fn add_placement(line: &mut String, placement: &SymbolPlacement) -> Result<(), AllocError> {
     match placement {
-        SymbolPlacement::Section { index, offset } => line.add("sec", &(index, offset)),
-        SymbolPlacement::Common { part, size } => line.add("common", &(part, size)),
-        SymbolPlacement::Absolute(value) => line.add("abs", value),
-        SymbolPlacement::SectionStart(id) => line.add("start", id),
-        SymbolPlacement::SectionEnd(id) => line.add("end", id),
-        SymbolPlacement::SectionGroupEnd(id) => line.add("groupend", id),
+        SymbolPlacement::Section { index, offset } => add(line, "sec", &(index, offset)),
+        SymbolPlacement::Common { part, size } => add(line, "common", &(part, size)),
+        SymbolPlacement::Absolute(value) => add(line, "abs", value),
+        SymbolPlacement::SectionStart(id) => add(line, "start", id),
+        SymbolPlacement::SectionEnd(id) => add(line, "end", id),
+        SymbolPlacement::SectionGroupEnd(id) => add(line, "groupend", id),
         SymbolPlacement::Redirect {
             expression,
             loc,
             provide,
-        } => line.add("redirect", &(expression.tokens(), loc, provide)),
+        } => add(line, "redirect", &(expression.tokens(), loc, provide)),
         word => line.push_str(word_of(word)),
     }
 }
 
-fn add_input_section(line: &mut Line, section: &InputSection) {
+fn add_input_section(line: &mut String, section: &InputSection) -> Result<(), AllocError> {
     let bytes = section.bytes.as_slice();
     let contents = (section.slot, section.part, section.size, bytes);
     let truths = (section.given, section.strings, section.sorted);
-    line.add(
+    add(
+        line,
         "section",
         &(
             &section.name,
@@ -162,7 +167,7 @@ fn add_input_section(line: &mut Line, section: &InputSection) {
             section.attrs,
             section.group,
         ),
-    );
+    )?;
     let (relocs, relax) = (section.relocs.as_slice(), section.relax.as_slice());
-    line.add("holds", &(relocs, relax))
+    add(line, "holds", &(relocs, relax))
 }

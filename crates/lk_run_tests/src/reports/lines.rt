@@ -2,7 +2,7 @@
 
 use crate::rows::{Asked, expect_rows};
 use crate::runs::expect_reports;
-use lk_test_rows::Failed;
+use std::test::Fail;
 
 /// Descriptions with their reports.
 const REPORTED: &str = r#"# The smallest.
@@ -255,7 +255,7 @@ entry -
 end"#;
 
 #[test]
-fn layouts_are_reported(rt: HostRuntime) -> Result<(), Failed> {
+fn layouts_are_reported(rt: HostRuntime) -> Result<(), Fail> {
     expect_reports(&rt, rt.alloc(), REPORTED)
 }
 
@@ -298,6 +298,6 @@ const REFUSED: &str = r#"
 "#;
 
 #[test]
-fn refusals_are_told(rt: HostRuntime) -> Result<(), Failed> {
-    expect_rows(&rt, rt.alloc(), &Asked::Run, REFUSED)
+fn refusals_are_told(rt: HostRuntime) -> Result<(), Fail> {
+    expect_rows(&rt, rt.alloc(), Asked::Run, REFUSED)
 }

@@ -1,7 +1,7 @@
 //! Sections that are put in order by their names, and output that is linked again.
 
 use crate::runs::expect_reports;
-use lk_test_rows::Failed;
+use std::test::Fail;
 
 /// Descriptions with their reports.
 const REPORTED: &str =
@@ -86,6 +86,6 @@ entry -
 end"#;
 
 #[test]
-fn sorted_sections_and_singletons_are_told(rt: HostRuntime) -> Result<(), Failed> {
+fn sorted_sections_and_singletons_are_told(rt: HostRuntime) -> Result<(), Fail> {
     expect_reports(&rt, rt.alloc(), REPORTED)
 }

@@ -2,7 +2,7 @@
 
 use crate::rows::{Asked, expect_rows};
 use crate::runs::expect_reports;
-use lk_test_rows::Failed;
+use std::test::Fail;
 
 /// Descriptions with their reports.
 const REPORTED: &str = r#"# A location behind the section before it.
@@ -229,7 +229,7 @@ entry -
 end"#;
 
 #[test]
-fn moves_are_reported(rt: HostRuntime) -> Result<(), Failed> {
+fn moves_are_reported(rt: HostRuntime) -> Result<(), Fail> {
     expect_reports(&rt, rt.alloc(), REPORTED)
 }
 
@@ -267,6 +267,6 @@ const REFUSED: &str = r#"
 "#;
 
 #[test]
-fn moves_that_fail_are_told(rt: HostRuntime) -> Result<(), Failed> {
-    expect_rows(&rt, rt.alloc(), &Asked::Run, REFUSED)
+fn moves_that_fail_are_told(rt: HostRuntime) -> Result<(), Fail> {
+    expect_rows(&rt, rt.alloc(), Asked::Run, REFUSED)
 }

@@ -2,7 +2,7 @@
 
 use crate::rows::{Asked, expect_rows};
 use crate::runs::expect_reports;
-use lk_test_rows::Failed;
+use std::test::Fail;
 
 /// Descriptions with their reports.
 const REPORTED: &str =
@@ -117,7 +117,7 @@ entry -
 end"#;
 
 #[test]
-fn relaxed_links_are_laid_out(rt: HostRuntime) -> Result<(), Failed> {
+fn relaxed_links_are_laid_out(rt: HostRuntime) -> Result<(), Fail> {
     expect_reports(&rt, rt.alloc(), REPORTED)
 }
 
@@ -133,6 +133,6 @@ const REFUSED: &str = r#"
 "#;
 
 #[test]
-fn relaxed_links_are_refused(rt: HostRuntime) -> Result<(), Failed> {
-    expect_rows(&rt, rt.alloc(), &Asked::Run, REFUSED)
+fn relaxed_links_are_refused(rt: HostRuntime) -> Result<(), Fail> {
+    expect_rows(&rt, rt.alloc(), Asked::Run, REFUSED)
 }

@@ -2,7 +2,7 @@
 
 use crate::rows::{Asked, expect_rows};
 use crate::runs::expect_reports;
-use lk_test_rows::Failed;
+use std::test::Fail;
 
 /// Descriptions with their reports.
 const TABLED: &str = r#"# A jump and a thread-local offset of one symbol: 16 bytes in each part.
@@ -211,7 +211,7 @@ entry -
 end"#;
 
 #[test]
-fn tables_are_laid_out(rt: HostRuntime) -> Result<(), Failed> {
+fn tables_are_laid_out(rt: HostRuntime) -> Result<(), Fail> {
     expect_reports(&rt, rt.alloc(), TABLED)
 }
 
@@ -234,6 +234,6 @@ const REFUSED: &str = r#"
 "#;
 
 #[test]
-fn tables_are_refused(rt: HostRuntime) -> Result<(), Failed> {
-    expect_rows(&rt, rt.alloc(), &Asked::Run, REFUSED)
+fn tables_are_refused(rt: HostRuntime) -> Result<(), Fail> {
+    expect_rows(&rt, rt.alloc(), Asked::Run, REFUSED)
 }

@@ -2,7 +2,7 @@
 
 use crate::rows::{Asked, expect_rows};
 use crate::runs::expect_reports;
-use lk_test_rows::Failed;
+use std::test::Fail;
 
 /// Descriptions with their reports.
 const REPORTED: &str =
@@ -318,7 +318,7 @@ entry -
 end"#;
 
 #[test]
-fn thunks_are_told_where_they_stand(rt: HostRuntime) -> Result<(), Failed> {
+fn thunks_are_told_where_they_stand(rt: HostRuntime) -> Result<(), Fail> {
     expect_reports(&rt, rt.alloc(), REPORTED)
 }
 
@@ -349,6 +349,6 @@ Relative | Got => 1 out of reach: branch 1 0 0 0
 "#;
 
 #[test]
-fn branches_that_reach_nothing_are_refused(rt: HostRuntime) -> Result<(), Failed> {
-    expect_rows(&rt, rt.alloc(), &Asked::Run, REFUSED)
+fn branches_that_reach_nothing_are_refused(rt: HostRuntime) -> Result<(), Fail> {
+    expect_rows(&rt, rt.alloc(), Asked::Run, REFUSED)
 }

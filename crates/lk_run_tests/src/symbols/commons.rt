@@ -1,7 +1,7 @@
 //! What commons bring to parts, which sections they keep, and where they stand.
 
 use crate::runs::expect_reports;
-use lk_test_rows::Failed;
+use std::test::Fail;
 
 /// Runs over links with commons.
 const REPORTS: &str = r#"# Two files with a section and a common each: rounded up,
@@ -188,6 +188,6 @@ end
 1 section 0 is in no segment"#;
 
 #[test]
-fn commons_have_addresses(rt: HostRuntime) -> Result<(), Failed> {
+fn commons_have_addresses(rt: HostRuntime) -> Result<(), Fail> {
     expect_reports(&rt, rt.alloc(), REPORTS)
 }

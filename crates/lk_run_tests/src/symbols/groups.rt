@@ -1,7 +1,7 @@
 //! Runs over links with section groups, debug data, and files that are neither prelude nor object.
 
 use crate::runs::expect_reports;
-use lk_test_rows::Failed;
+use std::test::Fail;
 
 /// What stands behind the prelude's group in a description of one output section, with its report.
 const KEPT: &str =
@@ -201,11 +201,11 @@ undefined: symbol 1 from 2 1 0 relocation 0
 discarded: 1 0 3"#;
 
 #[test]
-fn groups_debug_data_and_other_files_are_laid_out(rt: HostRuntime) -> Result<(), Failed> {
+fn groups_debug_data_and_other_files_are_laid_out(rt: HostRuntime) -> Result<(), Fail> {
     expect_reports(&rt, rt.alloc(), KEPT)
 }
 
 #[test]
-fn references_of_dynamic_files_are_told(rt: HostRuntime) -> Result<(), Failed> {
+fn references_of_dynamic_files_are_told(rt: HostRuntime) -> Result<(), Fail> {
     expect_reports(&rt, rt.alloc(), UNMET)
 }

@@ -2,7 +2,7 @@
 
 use crate::rows::{Asked, expect_rows};
 use crate::runs::expect_reports;
-use lk_test_rows::Failed;
+use std::test::Fail;
 
 /// What stands behind the prelude's group in a description of one output section, with its report; and whole descriptions.
 const REPORTED: &str =
@@ -442,11 +442,11 @@ const REFUSED: &str = r#"
 "#;
 
 #[test]
-fn merged_links_are_laid_out(rt: HostRuntime) -> Result<(), Failed> {
+fn merged_links_are_laid_out(rt: HostRuntime) -> Result<(), Fail> {
     expect_reports(&rt, rt.alloc(), REPORTED)
 }
 
 #[test]
-fn merged_links_are_refused(rt: HostRuntime) -> Result<(), Failed> {
-    expect_rows(&rt, rt.alloc(), &Asked::Run, REFUSED)
+fn merged_links_are_refused(rt: HostRuntime) -> Result<(), Fail> {
+    expect_rows(&rt, rt.alloc(), Asked::Run, REFUSED)
 }

@@ -2,7 +2,7 @@
 
 use crate::rows::{Asked, expect_rows};
 use crate::runs::expect_reports;
-use lk_test_rows::Failed;
+use std::test::Fail;
 
 /// Descriptions with their reports.
 const REPORTED: &str =
@@ -128,7 +128,7 @@ entry -
 end"#;
 
 #[test]
-fn own_symbols_have_their_values(rt: HostRuntime) -> Result<(), Failed> {
+fn own_symbols_have_their_values(rt: HostRuntime) -> Result<(), Fail> {
     expect_reports(&rt, rt.alloc(), REPORTED)
 }
 
@@ -149,6 +149,6 @@ const REFUSED: &str = r#"
 "#;
 
 #[test]
-fn redirects_without_a_value_are_refused(rt: HostRuntime) -> Result<(), Failed> {
-    expect_rows(&rt, rt.alloc(), &Asked::Run, REFUSED)
+fn redirects_without_a_value_are_refused(rt: HostRuntime) -> Result<(), Fail> {
+    expect_rows(&rt, rt.alloc(), Asked::Run, REFUSED)
 }

@@ -2,7 +2,7 @@
 //! that can't be met.
 
 use crate::runs::expect_reports;
-use lk_test_rows::Failed;
+use std::test::Fail;
 
 /// What stands behind the prelude's group in a description of one output section, with its report.
 const KEPT: &str =
@@ -372,11 +372,11 @@ undefined: symbol 0 from 1 1 0 relocation 3
 1 undefined: symbol 0 from 1 0 0 relocation 0"#;
 
 #[test]
-fn what_is_reached_is_reported(rt: HostRuntime) -> Result<(), Failed> {
+fn what_is_reached_is_reported(rt: HostRuntime) -> Result<(), Fail> {
     expect_reports(&rt, rt.alloc(), KEPT)
 }
 
 #[test]
-fn references_that_cannot_be_met_are_told(rt: HostRuntime) -> Result<(), Failed> {
+fn references_that_cannot_be_met_are_told(rt: HostRuntime) -> Result<(), Fail> {
     expect_reports(&rt, rt.alloc(), UNMET)
 }

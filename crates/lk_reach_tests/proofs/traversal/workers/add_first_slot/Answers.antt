@@ -9,10 +9,10 @@ pub add_slot-requires : goal.add_slot-requires
 add_slot-requires g c =
     let l = g.J.Reach.lists in
     let link = c.args.link.now in
-    let groups : l.groups ≡ link.groups = ap (λ m. m.groups) c.requires.link.lists in
-    let units : l.units ≡ reached_marks link = ap (λ m. m.units) c.requires.link.lists in
-    let set : IsMarked c.args.walk.now.marks.items 0 = search rules in
-    let reached : IsMarked l.units 0 = subst (λ ms. IsMarked ms 0) (c.requires.walked.marks ∙ sym units) set in
-    let within : 0 < symbols_in_all link.groups = omega (arith, symbols_few link c.requires.link.well_formed) in
+    let groups : l.groups ≡ link.groups = ap (λ m. m.groups) c.requires.lists in
+    let units : l.units ≡ reached_marks link = ap (λ m. m.units) c.requires.lists in
+    let set : IsMarked c.in_ok-walk.walk.marks.items 0 = search rules in
+    let reached : IsMarked l.units 0 = subst (λ ms. IsMarked ms 0) (c.in_ok-walk.ensures.marks ∙ sym units) set in
+    let within : 0 < symbols_in_all link.groups = omega (arith, symbols_few link c.requires.well_formed) in
     let there : IsUnit l.groups (Sym 0) = subst (λ gs. IsUnit gs (Sym 0)) (sym groups) (symbol_unit link.groups 0 within) in
-    record { meant = record { there = there; reached = reached; exported = tt }; own = c.in-Ok.ensures }
+    record { meant = record { there = there; reached = reached; exported = tt }; own = c.in_ok-group.ensures }

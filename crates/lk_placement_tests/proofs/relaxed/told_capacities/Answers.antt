@@ -1,6 +1,6 @@
 use Rattle.std.proofs.Common.{IsTrue, refl}
 use Rattle.lk_link.specs.Alignments.{is_alignment}
-use Rattle.lk_placement_tests.proofs.relaxed.add_capacities.Goals as goal
+use Rattle.lk_placement_tests.proofs.relaxed.told_capacities.Goals as goal
 
 eight : IsTrue (is_alignment 8)
 unfolding is_alignment
