@@ -16,7 +16,7 @@ use Rattle.lk_link.proofs.Elements.{append_at, contains_at, map_at}
 use Rattle.lk_reach.specs.declared.units.Ask.{Ask}
 use Rattle.lk_reach.specs.declared.units.Ask.TheVariants.{Reference}
 use Rattle.lk_reach.specs.Marks.{IsHit, asking}
-use Rattle.lk_reach.specs.Units.{file_roots, flags_from, kind_roots, location_asks, script_roots, wanted_symbol_asks}
+use Rattle.lk_reach.specs.Units.{file_roots, flags_from, kind_roots, location_asks, wanted_symbol_asks}
 use Rattle.lk_reach.proofs.MarkLemmas.{all_right, hit_keeps}
 use Rattle.lk_explain.specs.declared.search.Search.{Search}
 use Rattle.lk_explain.specs.Searching.{IsBelow, Takes, with_asker}
@@ -52,14 +52,14 @@ script_kind kind.NotLoaded h = absurd (cc)
 script_kind kind.SyntheticSymbols h = absurd (cc)
 script_kind kind.LinkerScript h = refl
 
-roots_of_script : (link : LinkInput) (f : NumberedFile) → is_script f.file.kind ≡ true → file_roots link f ≡ script_roots link f
+roots_of_script : (link : LinkInput) (f : NumberedFile) → is_script f.file.kind ≡ true → file_roots link f ≡ wanted_symbol_asks link f ++ location_asks link
 roots_of_script link f h = ap (kind_roots link f) (script_kind f.file.kind h)
 
 sets_none : (s : ℕ) (x : Ask) → Reference s (flags_from 0) ≡ x → sets_flags x ≡ false
 sets_none s x h = ap sets_flags (sym h)
 
 -- what comes from an ask on that sets flags is by the location counter
-behind_symbols : (link : LinkInput) (f : NumberedFile) (n : ℕ) (x : Ask) → slice_get (script_roots link f) n ≡ Some x → sets_flags x ≡ true → length (wanted_symbol_asks link f) ≤ n
+behind_symbols : (link : LinkInput) (f : NumberedFile) (n : ℕ) (x : Ask) → slice_get (wanted_symbol_asks link f ++ location_asks link) n ≡ Some x → sets_flags x ≡ true → length (wanted_symbol_asks link f) ≤ n
 behind_symbols link f n x there sets = elim (append_at (wanted_symbol_asks link f) (location_asks link) n x there) [
   | inl own ↦
       let at = map_at (λ (q : ℕ × InputSymbol). Reference q.0 (flags_from 0)) _ n x own in
@@ -68,10 +68,10 @@ behind_symbols link f n x there sets = elim (append_at (wanted_symbol_asks link 
   | inr b ↦ omega (arith, b.1)
 ]
 
-location_only : (link : LinkInput) (f : NumberedFile) (s : Search) (n : ℕ) → length (wanted_symbol_asks link f) ≤ n → AreFound link s (location_asks link) → AreFound link s (drop n (script_roots link f))
+location_only : (link : LinkInput) (f : NumberedFile) (s : Search) (n : ℕ) → length (wanted_symbol_asks link f) ≤ n → AreFound link s (location_asks link) → AreFound link s (drop n (wanted_symbol_asks link f ++ location_asks link))
 location_only link f s n past found k d lt =
     let P : Ask → Type 0 = IsHit (asking link) (found_marks s) in
-    let all : List Ask = script_roots link f in
+    let all : List Ask = wanted_symbol_asks link f ++ location_asks link in
     let wanted : List Ask = wanted_symbol_asks link f in
     let x : Ask = get_or (drop n all) k d in
     let within : n + k < length all = omega (arith, lt, length-drop n all) in
@@ -92,7 +92,7 @@ takes_wanted link f done x old new script below found turn sets h =
     let g = asking link in
     let n : ℕ = length done in
     let pair : Ask → ℕ × Ask = λ a. (0, a) in
-    let same : file_roots link f ≡ script_roots link f = roots_of_script link f script in
+    let same : file_roots link f ≡ wanted_symbol_asks link f ++ location_asks link = roots_of_script link f script in
     let past = behind_symbols link f n x (ap (λ xs. slice_get xs n) (sym same) ∙ turn.there) sets in
     let still : AreFound link new (location_asks link) = found_after link 1 (with_asker 0 done) (location_asks link) old new h found in
     let rest : List Ask = drop n (file_roots link f) in
@@ -107,5 +107,5 @@ takes_wanted link f done x old new script below found turn sets h =
 pub located_after : (link : LinkInput) (f : NumberedFile) (old new : Search) → is_script f.file.kind ≡ true → Takes (asking link) 1 (with_asker 0 (file_roots link f)) old new → AreFound link new (location_asks link)
 located_after link f old new script h =
     let P : Ask → Type 0 = IsHit (asking link) (found_marks new) in
-    let all : AreFound link new (script_roots link f) = subst (AreFound link new) (roots_of_script link f script) (found_taken link 1 0 (file_roots link f) old new h) in
+    let all : AreFound link new (wanted_symbol_asks link f ++ location_asks link) = subst (AreFound link new) (roots_of_script link f script) (found_taken link 1 0 (file_roots link f) old new h) in
     all_right P (wanted_symbol_asks link f) (location_asks link) all

@@ -20,7 +20,7 @@ use Rattle.lk_link.specs.Symbols.{all_symbols, symbol_at}
 use Rattle.lk_link.specs.TableRules.{has_tables}
 use Rattle.lk_generator.specs.declared.objects.Drawn.{Drawn}
 use Rattle.lk_generator.specs.Draws.{state_behind}
-use Rattle.lk_generator.specs.Generated.{data_section, drawn, generated_link, generated_object, generated_plan, no_named_parts, object_of, object_symbols, plain_symbol, strings_section, text_section}
+use Rattle.lk_generator.specs.Generated.{drawn, generated_link, generated_object, generated_plan, no_named_parts, object_of, object_symbols, plain_section, plain_symbol, strings_section, text_section}
 use Rattle.lk_generator.proofs.FileLists.{files_in_a_row, nth}
 
 -- ---- sections
@@ -30,7 +30,7 @@ abbrev text_with : Bool → ℕ → InputSection
 text_with is_first size = record (text_section 0 size) { slot = (if is_first then slot.MustLoad else slot.Unloaded) }
 
 abbrev sections_with : Bool → Drawn → List InputSection
-sections_with is_first d = text_with is_first d.text_size ∷ data_section d.data_size ∷ strings_section d.first_letter d.last_letter ∷ []
+sections_with is_first d = text_with is_first d.text_size ∷ plain_section slot.Unloaded 2 d.data_size 2 [] ∷ strings_section d.first_letter d.last_letter ∷ []
 
 inputs_with : (is_first : Bool) (d : Drawn) → nat_lt 0 d.text_size ≡ true → nat_lt 4 d.text_size ≡ true → nat_lt 8 d.text_size ≡ true
     → list_all (is_good_input generated_plan 5) (sections_with is_first d) ≡ true

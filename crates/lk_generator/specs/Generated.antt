@@ -2,6 +2,7 @@
 use Rattle.std.specs.Prelude.{ℕ, ◌+◌, ◌*◌, ◌-◌, ◌/◌, List, [], ◌∷◌, ◌++◌, Option, Some, None, true, false, if◌then◌else◌, ◌==◌, codes, map, min, pos}
 use Rattle.std.specs.Fmt.{decimal}
 use Rattle.std.specs.List.{range_with_len}
+use Rattle.lk_link.specs.declared.file.FileKind.{FileKind}
 use Rattle.lk_link.specs.declared.file.FileKind.TheVariants as kind
 use Rattle.lk_link.specs.declared.file.InputFile.{InputFile}
 use Rattle.lk_link.specs.declared.link.LinkInput.{LinkInput}
@@ -139,10 +140,6 @@ abbrev pub text_section : ℕ → ℕ → InputSection
 text_section i size = plain_section (if i == 0 then slot.MustLoad else slot.Unloaded) 0 size 4
     (plain_relocation 0 relocation.Relative 3 ∷ plain_relocation 4 relocation.Absolute 4 ∷ plain_relocation 8 relocation.Absolute 2 ∷ [])
 
--- its data
-abbrev pub data_section : ℕ → InputSection
-data_section size = plain_section slot.Unloaded 2 size 2 []
-
 -- its strings: one of a letter, and one of `x` and a letter
 abbrev pub strings_section : ℕ → ℕ → InputSection
 strings_section first last = record (plain_section slot.Merge 1 5 0 []) { bytes = first ∷ 0 ∷ 120 ∷ last ∷ 0 ∷ []; given = true; strings = true }
@@ -159,33 +156,15 @@ object_symbols d =
     ∷ plain_symbol [] (placed.Section 2 0) None ∷ plain_symbol (codes "u") placed.Undef (Some (5 * d.text_target))
     ∷ plain_symbol (codes "v") placed.Undef (Some (5 * d.data_target + 1)) ∷ []
 
--- the sections of object i
+-- the sections of object i: its code, its data, and its strings
 abbrev pub object_sections : ℕ → Drawn → List InputSection
-object_sections i d = text_section i d.text_size ∷ data_section d.data_size ∷ strings_section d.first_letter d.last_letter ∷ []
+object_sections i d =
+    text_section i d.text_size ∷ plain_section slot.Unloaded 2 d.data_size 2 [] ∷ strings_section d.first_letter d.last_letter ∷ []
 
--- object i
-abbrev pub object_of : ℕ → Drawn → InputFile
-object_of i d = record {
-  kind = kind.Object;
-  name = codes "o" ++ decimal i;
-  symbols = object_symbols d;
-  sections = object_sections i d;
-  archive = false;
-  export = false;
-  check = false;
-  candidates = [];
-}
-
--- object i of a link
-abbrev pub generated_object : ℕ → ℕ → ℕ → InputFile
-generated_object seed size i = object_of i (drawn seed size i)
-
--- ---- groups
-
--- the linker's own file, without symbols
-abbrev pub empty_prelude : InputFile
-empty_prelude = record {
-  kind = kind.Prelude;
+-- a file of a kind, out of no archive, without a name, symbols and sections
+abbrev pub empty_file : FileKind → InputFile
+empty_file of = record {
+  kind = of;
   name = [];
   symbols = [];
   sections = [];
@@ -195,18 +174,28 @@ empty_prelude = record {
   candidates = [];
 }
 
+-- object i
+abbrev pub object_of : ℕ → Drawn → InputFile
+object_of i d = record (empty_file kind.Object) { name = codes "o" ++ decimal i; symbols = object_symbols d; sections = object_sections i d }
+
+-- object i of a link
+abbrev pub generated_object : ℕ → ℕ → ℕ → InputFile
+generated_object seed size i = object_of i (drawn seed size i)
+
+-- ---- groups
+
+-- the linker's own file, without symbols
+abbrev pub empty_prelude : InputFile
+empty_prelude = empty_file kind.Prelude
+
 -- the k-th group of objects: eight, or as many as are left
 abbrev pub object_group : ℕ → ℕ → ℕ → List InputFile
 object_group seed size k = map (generated_object seed size) (range_with_len (8 * k) (min 8 (size - 8 * k)))
 
--- all of them
-abbrev pub object_groups : ℕ → ℕ → List (List InputFile)
-object_groups seed size = map (object_group seed size) (range_with_len 0 ((size + 7) / 8))
-
--- the link that a seed and a number of objects give
+-- the link that a seed and a number of objects give: the linker's own file, then the groups of all objects
 abbrev pub generated_link : ℕ → ℕ → LinkInput
 generated_link seed size = record {
   options = default_options;
   plan = generated_plan;
-  groups = (empty_prelude ∷ []) ∷ object_groups seed size;
+  groups = (empty_prelude ∷ []) ∷ map (object_group seed size) (range_with_len 0 ((size + 7) / 8));
 }

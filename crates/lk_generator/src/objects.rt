@@ -4,7 +4,7 @@ ghost use Rattle.std.specs.Prelude.{◌≡◌, ◌+◌, ◌*◌, ◌<◌, ◌≤
 ghost use Rattle.std.specs.Fmt.{decimal};
 ghost use Rattle.lk_link.specs.declared.symbol.SymbolPlacement.TheVariants as at;
 ghost use Rattle.lk_generator.specs.Draws.{state_behind};
-ghost use Rattle.lk_generator.specs.Generated.{data_section, drawn, empty_prelude, object_of, object_sections, object_symbols, plain_relocation, plain_section, plain_symbol, strings_section, text_section};
+ghost use Rattle.lk_generator.specs.Generated.{drawn, empty_prelude, object_of, object_sections, object_symbols, plain_relocation, plain_section, plain_symbol, strings_section, text_section};
 
 use crate::draws::Draws;
 use lk_link::file::{Candidates, FileKind, InputFile, InputSections};

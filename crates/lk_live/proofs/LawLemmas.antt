@@ -18,7 +18,7 @@ use Rattle.lk_reach.specs.declared.units.Ask.TheVariants.{Section}
 use Rattle.lk_live.specs.Laws.{AllIsLive, AskedForIsLive, GroupsStayTogether, LiveWasAskedFor}
 use Rattle.lk_reach.specs.declared.units.Unit.TheVariants.{Sec}
 use Rattle.lk_reach.specs.Reach.{IsReached}
-use Rattle.lk_reach.specs.Units.{IsRoot, asked_members, asked_references, comes_along, follows, group_asks, is_coming, is_other, is_root, member_asks, other_asks, unit_of}
+use Rattle.lk_reach.specs.Units.{IsRoot, asked_members, asked_references, comes_along, follows, is_coming, is_other, is_root, member_asks, other_asks, unit_of}
 use Rattle.lk_live.proofs.Living.{roots_are_live}
 use Rattle.lk_reach.proofs.Numbered.{file_of_input}
 use Rattle.lk_reach.proofs.ReachLemmas.{last_asks, reach_more, reach_root}
@@ -78,8 +78,8 @@ asks_for_member link x y file group rise at_file at_x at_y in_x in_y kept comes 
     let same : asked_members link x.file x.index ≡ other_asks x.file file.sections x.index members
     = ap (λ o. option_map_or (λ f. option_map_or (member_asks x.file f.sections x.index) (slice_get f.sections x.index) []) o []) at_file
     ∙ ap (λ o. option_map_or (member_asks x.file file.sections x.index) o []) at_x
-    ∙ ap (λ b. if b then group_asks x.file file.sections x.index x.section.group else []) kept
-    ∙ ap (group_asks x.file file.sections x.index) in_x in
+    ∙ ap (λ b. if b then option_map_or (λ g. other_asks x.file file.sections x.index (group_members file.sections g)) x.section.group [] else []) kept
+    ∙ ap (λ o. option_map_or (λ g. other_asks x.file file.sections x.index (group_members file.sections g)) o []) in_x in
     Contains-append_left (asked_members link x.file x.index) (asked_references link x.file x.index) (Section x.file y.index)
     (subst (λ xs. Contains xs (Section x.file y.index)) (sym same) asked)
 

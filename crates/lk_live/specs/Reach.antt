@@ -7,7 +7,6 @@ use Rattle.lk_link.specs.declared.file.InputFile.{InputFile}
 use Rattle.lk_link.specs.declared.ids.FileId.{FileId}
 use Rattle.lk_link.specs.declared.link.LinkInput.{LinkInput}
 use Rattle.lk_link.specs.declared.symbol.InputSymbol.{InputSymbol}
-use Rattle.lk_link.specs.declared.symbol.SymbolLoc.{SymbolLoc}
 use Rattle.lk_link.specs.declared.symbol.SymbolLoc.TheVariants as loc
 use Rattle.lk_link.specs.declared.symbol.SymbolPlacement.{SymbolPlacement}
 use Rattle.lk_link.specs.declared.symbol.SymbolPlacement.TheVariants as at
@@ -44,16 +43,10 @@ pub record IsKeptBySection (link : LinkInput) (o : ℕ) : Type 0 where
   pub live : IsLive link input
   pub keeps : keeps_output link o input ≡ true
 
--- the output section at whose start or end a location counter stands
-abbrev pub loc_output : SymbolLoc → Option ℕ
-loc_output (loc.SectionStart o) = Some o
-loc_output (loc.SectionEnd o) = Some o
-loc_output loc.None = None
-loc_output (loc.Counter n) = None
-
--- the same for the location counter of a redirect
+-- the output section at whose start or end the location counter of a redirect stands
 abbrev pub redirect_output : SymbolPlacement → Option ℕ
-redirect_output (at.Redirect e l provide) = loc_output l
+redirect_output (at.Redirect e (loc.SectionStart o) provide) = Some o
+redirect_output (at.Redirect e (loc.SectionEnd o) provide) = Some o
 redirect_output _ = None
 
 -- such a redirect of a script that is reached keeps the output section

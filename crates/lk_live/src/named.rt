@@ -8,7 +8,7 @@ ghost use Rattle.lk_link.specs.Marks.{is_marked};
 ghost use Rattle.lk_link.specs.Walks.{file_of};
 ghost use Rattle.lk_link.specs.WellFormed.{IsWellFormed};
 ghost use Rattle.lk_live.specs.KeptParts.{names_output, redirect_keeps, script_keeps};
-ghost use Rattle.lk_live.specs.Reach.{loc_output, redirect_output};
+ghost use Rattle.lk_live.specs.Reach.{redirect_output};
 
 use lk_link::marks::is_marked;
 use lk_link::{FileRef, InputSymbol, LinkInput, OutputSectionId, SymbolLoc, SymbolPlacement};
@@ -82,17 +82,10 @@ fn redirect_output(at: &SymbolPlacement) -> Option<OutputSectionId>
     ensures { result ≡ redirect_output at.now }
 {
     match at {
-        SymbolPlacement::Redirect { loc, .. } => loc_output(*loc),
+        SymbolPlacement::Redirect { loc, .. } => match loc {
+            SymbolLoc::SectionStart(output) | SymbolLoc::SectionEnd(output) => Some(*output),
+            SymbolLoc::None | SymbolLoc::Counter(_) => None,
+        },
         _ => None,
-    }
-}
-
-/// The output section at whose start or end a location counter stands.
-fn loc_output(loc: SymbolLoc) -> Option<OutputSectionId>
-    ensures { result ≡ loc_output loc }
-{
-    match loc {
-        SymbolLoc::SectionStart(output) | SymbolLoc::SectionEnd(output) => Some(output),
-        SymbolLoc::None | SymbolLoc::Counter(_) => None,
     }
 }

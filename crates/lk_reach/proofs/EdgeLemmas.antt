@@ -19,7 +19,7 @@ use Rattle.lk_reach.specs.declared.walk.Walk.{Walk}
 use Rattle.lk_reach.specs.Edges.{edge_in}
 use Rattle.lk_link.specs.SymbolPlacements.{edge_of}
 use Rattle.lk_reach.specs.Marks.{IsInside, IsJoined, asking, join_all}
-use Rattle.lk_reach.specs.Units.{file_roots, follows, kind_roots, location_asks, script_roots, wanted_symbol_asks}
+use Rattle.lk_reach.specs.Units.{file_roots, follows, kind_roots, location_asks, wanted_symbol_asks}
 use Rattle.lk_reach.specs.Walking.{Adds, AreAsked, IsDone, IsSized}
 use Rattle.lk_reach.proofs.MarkLemmas.{all_right, mark_all_marked, mark_cases, none_marked}
 use Rattle.lk_reach.proofs.UnitLemmas.{asks_are_inside, wanted_inside}
@@ -110,7 +110,7 @@ append_none : {X : Type 0} (xs : List X) → xs ++ [] ≡ xs
 append_none [] = refl
 append_none (x ∷ xs) = ap (λ ys. x ∷ ys) (append_none xs)
 
-roots_of_script : (link : LinkInput) (f : NumberedFile) → is_script f.file.kind ≡ true → file_roots link f ≡ script_roots link f
+roots_of_script : (link : LinkInput) (f : NumberedFile) → is_script f.file.kind ≡ true → file_roots link f ≡ wanted_symbol_asks link f ++ location_asks link
 roots_of_script link f h = ap (kind_roots link f) (script_kind f.file.kind h)
 
 -- a script behind the first one: its symbols are taken, and the location counter's expressions are done

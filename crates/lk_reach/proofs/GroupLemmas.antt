@@ -24,7 +24,7 @@ use Rattle.lk_reach.specs.declared.units.Unit.{Unit as LinkUnit}
 use Rattle.lk_reach.specs.declared.units.Unit.TheVariants.{Sec}
 use Rattle.lk_reach.specs.declared.walk.Walk.{Walk}
 use Rattle.lk_reach.specs.Marks.{IsHit, IsMarked, asking, join_all, join_flags, unit_at, unit_number}
-use Rattle.lk_reach.specs.Units.{asked_members, asked_references, coming_asks, flags_of, follows, group_asks, is_coming, is_other, member_asks, other_asks}
+use Rattle.lk_reach.specs.Units.{asked_members, asked_references, coming_asks, flags_of, follows, is_coming, is_other, member_asks, other_asks}
 use Rattle.lk_reach.specs.Walking.{Adds, AreTaken, IsGroupPlace, IsSized, IsWalking}
 use Rattle.lk_reach.proofs.MarkLemmas.{all_left, hit_keeps, mark_all_keeps, mark_all_marked, mark_cases, none_marked}
 use Rattle.lk_reach.proofs.SymbolNumbers.{inputs_few}
@@ -57,8 +57,8 @@ members_are : (link : LinkInput) (id : FileId) (i n : ℕ) (place : IsGroupPlace
 members_are link id i n place =
     ap (λ o. option_map_or (λ f. option_map_or (member_asks id f.sections i) (slice_get f.sections i) []) o []) place.there
     ∙ ap (λ o. option_map_or (member_asks id place.file.sections i) o []) place.at
-    ∙ ap (λ b. if b then group_asks id place.file.sections i place.section.group else []) place.kept
-    ∙ ap (group_asks id place.file.sections i) place.in_group
+    ∙ ap (λ b. if b then option_map_or (λ g. other_asks id place.file.sections i (group_members place.file.sections g)) place.section.group [] else []) place.kept
+    ∙ ap (λ o. option_map_or (λ g. other_asks id place.file.sections i (group_members place.file.sections g)) o []) place.in_group
 
 -- ---- what is marked already
 

@@ -1,6 +1,6 @@
 -- Marks set one flag, for which no symbol gets a resolution: a symbol that gets one is referred to, so it is reached. References set flags of 32 bits.
 use Rattle.std.proofs.Common.{◌≡◌, ℕ, zero, suc, ◌+◌, ◌^◌, ◌<◌, Bool, true, false, ◌&&◌, if◌then◌else◌, List, [], ◌∷◌, Option, Some, None, filter, sym, ap, ◌∙◌, subst, inl, inr, arith, option_and_then}
-use Rattle.std.specs.Prelude.{◌==◌, option_map, refl, unwrap_or}
+use Rattle.std.specs.Prelude.{◌==◌, not, option_map, refl, unwrap_or}
 use Rattle.std.specs.Int.{bit_at}
 use Rattle.std.specs.List.{Contains, enumerate_from, flat_map, slice_get}
 use Rattle.std.specs.Option.{option_map_or, option_to_list}
@@ -23,7 +23,7 @@ use Rattle.lk_link.specs.Inputs.{Input, NumberedFile, inputs_from, numbered_file
 use Rattle.lk_link.specs.InputSlots.{can_be_kept, is_regular}
 use Rattle.lk_link.specs.Relocations.{resolution_flags}
 use Rattle.lk_link.specs.SectionGroups.{group_members}
-use Rattle.lk_link.specs.Symbols.{definition_of, first_symbol}
+use Rattle.lk_link.specs.Symbols.{definition_of, first_symbol, is_named}
 use Rattle.lk_link.proofs.Elements.{append_at, at_contained, flat_map_at, map_at}
 use Rattle.lk_link.proofs.GoodSymbols.{numbered_symbol}
 use Rattle.lk_reach.specs.declared.exports.ExportSymbolsMode.{ExportSymbolsMode}
@@ -42,7 +42,7 @@ use Rattle.lk_link.specs.declared.symbol.SymbolPlacement.TheVariants as at
 use Rattle.lk_link.specs.Expressions.{postfix}
 use Rattle.lk_link.specs.SymbolPlacements.{edge_of, section_of}
 use Rattle.lk_reach.specs.Placements.{is_defined}
-use Rattle.lk_reach.specs.Units.{candidate_ask, candidate_asks, event_asks, is_script_root, is_shown, kind_asks, location_asks, script_redirect_asks, script_symbol_asks, shown_ask, wanted_symbol_asks, AskFlag, AskFor, ask_for, asked_definition, asked_members, asked_references, definition_ask, dynamic_ask, entry_asks, own_asks, prelude_symbol_asks, token_ask, token_asks, export_asks, export_roots, file_roots, flags_from, flags_of, follows, group_asks, is_other, is_primary_section, is_root, kind_roots, local_definition, member_asks, numbered_symbols, range_mark, reference, relocation_asks, roots, section_references, section_roots, symbol_asks}
+use Rattle.lk_reach.specs.Units.{candidate_ask, candidate_asks, event_asks, is_script_root, kind_asks, location_asks, script_redirect_asks, script_symbol_asks, shown_ask, wanted_symbol_asks, AskFlag, AskFor, ask_for, asked_definition, asked_members, asked_references, definition_ask, dynamic_ask, entry_asks, own_asks, prelude_symbol_asks, token_ask, token_asks, export_asks, export_roots, file_roots, flags_from, flags_of, follows, is_other, is_primary_section, is_root, kind_roots, local_definition, member_asks, numbered_symbols, range_mark, reference, relocation_asks, roots, section_references, section_roots, symbol_asks, other_asks}
 use Rattle.lk_reach.proofs.KindFlags.{kind_few}
 use Rattle.lk_reach.proofs.ReachLemmas.{reach_more, reach_root}
 
@@ -127,7 +127,7 @@ script_redirect_plain groups s at.LoadBaseAddress k a h = absurd (cc)
 script_plain : (groups : List (List InputFile)) (s : ℕ) (x : InputSymbol) (k : ℕ) (a : Ask) → slice_get (script_symbol_asks groups s x) k ≡ Some a → IsPlainAsk a
 script_plain groups s x k a h = elim (append_at (script_redirect_asks groups s x.at) (option_to_list (shown_ask s x)) k a h) [
   | inl own ↦ script_redirect_plain groups s x.at k a own
-  | inr shown ↦ plain_if (is_shown x) (Reference s flag.EXPORT_DYNAMIC) shown.0 a (omega arith) shown.2
+  | inr shown ↦ plain_if (is_named x && not x.hidden) (Reference s flag.EXPORT_DYNAMIC) shown.0 a (omega arith) shown.2
 ]
 
 kind_asks_plain : (groups : List (List InputFile)) (s : ℕ) (id : FileId) (file : InputFile) (x : InputSymbol) (of : FileKind) (k : ℕ) (a : Ask) → slice_get (kind_asks groups s id file x of) k ≡ Some a → IsPlainAsk a
@@ -151,7 +151,7 @@ filed_plain : (link : LinkInput) (id : FileId) (i : ℕ) (o : Option InputFile) 
 filed_plain link id i None k a h = absurd (cc)
 filed_plain link id i (Some f) k a h = held_plain link id f (slice_get f.sections i) k a h
 
-group_plain : (id : FileId) (sections : List InputSection) (own : ℕ) (group : Option ℕ) (k : ℕ) (a : Ask) → slice_get (group_asks id sections own group) k ≡ Some a → IsPlainAsk a
+group_plain : (id : FileId) (sections : List InputSection) (own : ℕ) (group : Option ℕ) (k : ℕ) (a : Ask) → slice_get (option_map_or (λ g. other_asks id sections own (group_members sections g)) group []) k ≡ Some a → IsPlainAsk a
 group_plain id sections own None k a h = absurd (cc)
 group_plain id sections own (Some g) k a h =
     let x = map_at (Section id) (filter (is_other sections own) (group_members sections g)) k a h in
@@ -160,7 +160,7 @@ group_plain id sections own (Some g) k a h =
 member_plain : (id : FileId) (sections : List InputSection) (own : ℕ) (o : Option InputSection) (k : ℕ) (a : Ask) → slice_get (option_map_or (member_asks id sections own) o []) k ≡ Some a → IsPlainAsk a
 member_plain id sections own None k a h = absurd (cc)
 member_plain id sections own (Some s) k a h =
-    elim (can_be_kept s.slot) as (λ b. slice_get (if b then group_asks id sections own s.group else []) k ≡ Some a → IsPlainAsk a) [
+    elim (can_be_kept s.slot) as (λ b. slice_get (if b then option_map_or (λ g. other_asks id sections own (group_members sections g)) s.group [] else []) k ≡ Some a → IsPlainAsk a) [
       | true ↦ λ among. group_plain id sections own s.group k a among
       | false ↦ λ among. absurd (cc)
     ] h

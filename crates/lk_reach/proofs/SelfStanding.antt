@@ -31,7 +31,7 @@ use Rattle.lk_link.specs.InputSlots.{can_be_kept, is_regular}
 use Rattle.lk_link.specs.Relocations.{resolution_flags}
 use Rattle.lk_link.specs.SectionGroups.{group_members}
 use Rattle.lk_link.specs.SymbolPlacements.{edge_of, is_in_discarded, is_provided, is_undefined, section_of}
-use Rattle.lk_link.specs.Symbols.{definition_of, first_symbol, is_canonical, symbol_at}
+use Rattle.lk_link.specs.Symbols.{definition_of, first_symbol, is_canonical, is_named, symbol_at}
 use Rattle.lk_link.specs.WellFormed.{IsWellFormed}
 use Rattle.lk_link.proofs.Elements.{at_index, numbered_at}
 use Rattle.lk_link.proofs.GoodInputs.{inputs_are_good}
@@ -46,7 +46,7 @@ use Rattle.lk_reach.specs.Exports.{is_exportable, is_exported, is_listed, is_own
 use Rattle.lk_reach.specs.Laws.{ReachedStandForThemselves}
 use Rattle.lk_reach.specs.Placements.{is_defined}
 use Rattle.lk_reach.specs.Reach.{IsPath}
-use Rattle.lk_reach.specs.Units.{AskFor, AsksFor, ask_for, asked_definition, asked_members, asked_references, candidate_ask, candidate_asks, definition_ask, dynamic_ask, entry_asks, event_asks, export_asks, export_roots, file_roots, flags_from, follows, group_asks, is_other, is_primary_section, is_root, is_script_root, is_shown, kind_asks, kind_roots, local_definition, location_asks, member_asks, numbered_symbols, own_asks, prelude_symbol_asks, range_mark, redirect_references, reference, relocation_asks, roots, script_redirect_asks, section_references, section_roots, shown_ask, symbol_asks, target_of, token_ask, token_asks, wanted_symbol_asks}
+use Rattle.lk_reach.specs.Units.{AskFor, AsksFor, ask_for, asked_definition, asked_members, asked_references, candidate_ask, candidate_asks, definition_ask, dynamic_ask, entry_asks, event_asks, export_asks, export_roots, file_roots, flags_from, follows, is_other, is_primary_section, is_root, is_script_root, kind_asks, kind_roots, local_definition, location_asks, member_asks, numbered_symbols, own_asks, prelude_symbol_asks, range_mark, redirect_references, reference, relocation_asks, roots, script_redirect_asks, section_references, section_roots, shown_ask, symbol_asks, target_of, token_ask, token_asks, wanted_symbol_asks, other_asks}
 use Rattle.lk_reach.proofs.Numbered.{file_at, sections_of}
 use Rattle.lk_reach.proofs.UnitLemmas.{all_joined, all_passing, regular_kept}
 
@@ -139,13 +139,13 @@ references_stand link id file i section wf there at_i =
 
 -- ---- section groups
 
-members_stand : (groups : List (List InputFile)) (id : FileId) (sections : List InputSection) (i : ℕ) (group : Option ℕ) → All (Stands groups) (group_asks id sections i group)
+members_stand : (groups : List (List InputFile)) (id : FileId) (sections : List InputSection) (i : ℕ) (group : Option ℕ) → All (Stands groups) (option_map_or (λ g. other_asks id sections i (group_members sections g)) group [])
 members_stand groups id sections i None = All-nil (Stands groups)
 members_stand groups id sections i (Some g) = all_passing (Stands groups) (Section id) (is_other sections i) (group_members sections g) (λ j k at_j is. tt)
 
 section_members_stand : (groups : List (List InputFile)) (id : FileId) (sections : List InputSection) (i : ℕ) (o : Option InputSection) → All (Stands groups) (option_map_or (member_asks id sections i) o [])
 section_members_stand groups id sections i None = All-nil (Stands groups)
-section_members_stand groups id sections i (Some s) = either_stands groups (can_be_kept s.slot) (group_asks id sections i s.group) (λ kept. members_stand groups id sections i s.group)
+section_members_stand groups id sections i (Some s) = either_stands groups (can_be_kept s.slot) (option_map_or (λ g. other_asks id sections i (group_members sections g)) s.group []) (λ kept. members_stand groups id sections i s.group)
 
 file_members_stand : (groups : List (List InputFile)) (id : FileId) (i : ℕ) (o : Option InputFile)
     → All (Stands groups) (option_map_or (λ f. option_map_or (member_asks id f.sections i) (slice_get f.sections i) []) o [])
@@ -206,7 +206,7 @@ kind_stands link s id file x kind.Object wf own = placed_stands link.groups id (
 kind_stands link s id file x kind.SyntheticSymbols wf own = candidates_stand link.groups file.candidates (edge_of x.at)
 kind_stands link s id file x kind.LinkerScript wf own =
     All-append (Stands link.groups) (script_redirect_asks link.groups s x.at) (option_to_list (shown_ask s x)) (script_stands link s x.at wf own)
-    (if_stands link.groups (is_shown x) (Reference s flag.EXPORT_DYNAMIC) own)
+    (if_stands link.groups (is_named x && not x.hidden) (Reference s flag.EXPORT_DYNAMIC) own)
 kind_stands link s id file x kind.Prelude wf own = All-nil (Stands link.groups)
 kind_stands link s id file x kind.Dynamic wf own = All-nil (Stands link.groups)
 kind_stands link s id file x kind.NotLoaded wf own = All-nil (Stands link.groups)

@@ -1,7 +1,7 @@
 -- Symbols by their numbers, each with its file.
 use Rattle.std.proofs.Common.{◌≡◌, ℕ, ◌+◌, ◌-◌, ◌^◌, ◌<◌, ◌≤◌, true, get_or, List, [], length, map, take, Option, Some, None, sum_by, refl, sym, ap, ◌∙◌, subst, inl, inr, arith, is_some, ltb, option_and_then, option_map}
 use Rattle.std.specs.List.{All, flat_map, range_with_len, slice_get}
-use Rattle.std.specs.Option.{IsSome, option_map_or}
+use Rattle.std.specs.Option.{IsSome, option_map_or, option_to_list}
 use Rattle.std.proofs.lemmas.Bool.{ltb-true}
 use Rattle.std.proofs.lemmas.List.{length-map}
 use Rattle.std.proofs.lemmas.List.Concat.{length-flat_map}
@@ -24,15 +24,17 @@ use Rattle.lk_link.specs.Limits.{counted, limit_of}
 use Rattle.lk_link.specs.WellFormed.{IsWellFormed}
 use Rattle.lk_link.proofs.GoodInputs.{inputs_are_good}
 use Rattle.lk_link.specs.Inputs.{Input, NumberedFile, all_inputs, first_input, input_count, numbered_files, sections_in}
+use Rattle.lk_link.specs.SymbolPlacements.{section_of}
 use Rattle.lk_link.specs.Symbols.{IsSymbolIn, all_files, all_symbols, file_number, first_symbol, symbol_at, symbol_count, symbols_before, symbols_in}
 use Rattle.lk_link.proofs.Elements.{append_at, at_index, flat_map_at, map_at}
 use Rattle.lk_link.proofs.InputLemmas.{file_stands, files_from_are, inputs_follow, sum_mapped, sum_taken}
 use Rattle.lk_link.proofs.SymbolLemmas.{files_have_numbers, symbols_have_files, symbols_follow, symbols_within}
 use Rattle.lk_reach.specs.declared.units.Ask.{Ask}
+use Rattle.lk_reach.specs.declared.units.Ask.TheVariants.{Section}
 use Rattle.lk_reach.specs.declared.units.Unit.{Unit as LinkUnit}
 use Rattle.lk_reach.specs.declared.units.Unit.TheVariants.{Sym, Sec}
 use Rattle.lk_reach.specs.Marks.{IsUnit, all_units, symbols_in_all, unit_at, unit_number}
-use Rattle.lk_reach.specs.Units.{follows, kind_asks, numbered_symbols, object_symbol_asks, symbol_asks, symbols_of, unit_of}
+use Rattle.lk_reach.specs.Units.{follows, kind_asks, numbered_symbols, symbol_asks, symbols_of, unit_of}
 use Rattle.lk_reach.proofs.Numbered.{file_at, file_of_input}
 use Rattle.lk_reach.proofs.UnitLemmas.{input_place, input_unit, regular_kept, symbol_stands, symbols_length, units_count}
 
@@ -177,7 +179,7 @@ object_kind kind.LinkerScript h = absurd (cc)
 
 -- what a symbol of an object asks for
 pub object_follows : (link : LinkInput) (id : FileId) (s : ℕ) (file : InputFile) (x : InputSymbol) → IsSymbolIn link.groups id s → file_in link.groups id ≡ Some file → symbol_at link.groups s ≡ Some x
-    → is_object file.kind ≡ true → follows link (Sym s) ≡ object_symbol_asks id x.at
+    → is_object file.kind ≡ true → follows link (Sym s) ≡ option_to_list (option_map (Section id) (section_of x.at))
 object_follows link id s file x h at_file at_s object = symbol_follows link id s file x h at_file at_s ∙ ap (kind_asks link.groups s id file x) (object_kind file.kind object)
 
 -- symbols and sections are few enough for their numbers

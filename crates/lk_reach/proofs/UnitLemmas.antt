@@ -30,7 +30,7 @@ use Rattle.lk_link.specs.InputSlots.{can_be_kept, is_discarded, is_regular}
 use Rattle.lk_link.specs.Relocations.{resolution_flags}
 use Rattle.lk_link.specs.SectionGroups.{group_members}
 use Rattle.lk_link.specs.SymbolRules.{IsGoodSymbol, IsPlacementThere}
-use Rattle.lk_link.specs.Symbols.{all_files, all_symbols, definition_of, first_symbol, symbol_at, symbols_in}
+use Rattle.lk_link.specs.Symbols.{all_files, all_symbols, definition_of, first_symbol, is_named, symbol_at, symbols_in}
 use Rattle.lk_link.specs.WellFormed.{IsWellFormed}
 use Rattle.lk_link.proofs.GoodInputs.{inputs_are_good}
 use Rattle.lk_link.proofs.GoodSymbols.{defined_once, symbol_of}
@@ -51,7 +51,7 @@ use Rattle.lk_link.specs.declared.expression.Token.TheVariants as token
 use Rattle.lk_link.specs.Expressions.{Term, postfix}
 use Rattle.lk_link.specs.SymbolPlacements.{edge_of, is_undefined, section_of}
 use Rattle.lk_reach.specs.Placements.{is_defined}
-use Rattle.lk_reach.specs.Units.{candidate_ask, candidate_asks, event_asks, is_script_root, is_shown, kind_asks, location_asks, redirect_references, script_redirect_asks, shown_ask, wanted_symbol_asks, ask_for, asked_members, asked_references, asked_definition, comes_along, definition_ask, dynamic_ask, entry_asks, own_asks, prelude_symbol_asks, token_ask, token_asks, flags_from, export_asks, export_roots, file_roots, group_asks, is_coming, is_other, member_asks, other_asks, follows, is_primary_section, is_root, kind_roots, local_definition, numbered_symbols, range_mark, reference, relocation_asks, roots, section_references, section_roots, symbol_asks, symbols_of, unit_of}
+use Rattle.lk_reach.specs.Units.{candidate_ask, candidate_asks, event_asks, is_script_root, kind_asks, location_asks, redirect_references, script_redirect_asks, shown_ask, wanted_symbol_asks, ask_for, asked_members, asked_references, asked_definition, comes_along, definition_ask, dynamic_ask, entry_asks, own_asks, prelude_symbol_asks, token_ask, token_asks, flags_from, export_asks, export_roots, file_roots, is_coming, is_other, member_asks, other_asks, follows, is_primary_section, is_root, kind_roots, local_definition, numbered_symbols, range_mark, reference, relocation_asks, roots, section_references, section_roots, symbol_asks, symbols_of, unit_of}
 use Rattle.lk_link.proofs.Elements.{append_at, append_left, append_right, at_index, filter_at, flat_map_at, map_at, map_in, numbered_at}
 use Rattle.lk_reach.proofs.Numbered.{IsFileAt, IsSectionOf, file_at, file_of_input, one_place, sections_of}
 use Rattle.lk_reach.proofs.Numbered as numbered
@@ -245,7 +245,7 @@ others_inside link id file own members at_file = all_passing (IsInside link.grou
     let s = coming_there file.sections own k is in
     section_inside link.groups id k (section_unit link.groups id file k s.0 at_file s.1))
 
-group_inside : (link : LinkInput) (id : FileId) (file : InputFile) (i : ℕ) (group : Option ℕ) → file_in link.groups id ≡ Some file → All (IsInside link.groups) (group_asks id file.sections i group)
+group_inside : (link : LinkInput) (id : FileId) (file : InputFile) (i : ℕ) (group : Option ℕ) → file_in link.groups id ≡ Some file → All (IsInside link.groups) (option_map_or (λ g. other_asks id file.sections i (group_members file.sections g)) group [])
 group_inside link id file i None at_file = All-nil (IsInside link.groups)
 group_inside link id file i (Some g) at_file = others_inside link id file i (group_members file.sections g) at_file
 
@@ -346,7 +346,7 @@ kind_asks_inside link s id file x kind.Object wf lt there good = placement_insid
 kind_asks_inside link s id file x kind.SyntheticSymbols wf lt there good = candidates_inside link id file (edge_of x.at) wf there
 kind_asks_inside link s id file x kind.LinkerScript wf lt there good =
     All-append (IsInside link.groups) (script_redirect_asks link.groups s x.at) (option_to_list (shown_ask s x)) (script_redirect_inside link s x.at wf lt)
-    (option_inside link.groups (is_shown x) (Reference s flag.EXPORT_DYNAMIC) (reference_inside link.groups s flag.EXPORT_DYNAMIC lt))
+    (option_inside link.groups (is_named x && not x.hidden) (Reference s flag.EXPORT_DYNAMIC) (reference_inside link.groups s flag.EXPORT_DYNAMIC lt))
 kind_asks_inside link s id file x kind.Prelude wf lt there good = All-nil (IsInside link.groups)
 kind_asks_inside link s id file x kind.Dynamic wf lt there good = All-nil (IsInside link.groups)
 kind_asks_inside link s id file x kind.NotLoaded wf lt there good = All-nil (IsInside link.groups)

@@ -1,5 +1,5 @@
 -- What can be kept, and what asks for it.
-use Rattle.std.specs.Prelude.{◌≡◌, ℕ, ◌+◌, ◌==◌, ◌&&◌, not, Bool, true, false, if◌then◌else◌, List, [], ◌∷◌, ◌++◌, Option, Some, None, Contains, map, filter, length, option_and_then, option_map, slice_get, unwrap_or}
+use Rattle.std.specs.Prelude.{◌≡◌, ℕ, ◌+◌, ◌==◌, ◌&&◌, not, Bool, true, false, if◌then◌else◌, List, [], ◌∷◌, ◌++◌, Option, Some, None, Contains, map, filter, option_and_then, option_map, slice_get, unwrap_or}
 use Rattle.std.specs.Int.{bit_at}
 use Rattle.std.specs.List.{enumerate_from, flat_map}
 use Rattle.std.specs.Option.{option_map_or, option_to_list}
@@ -20,7 +20,6 @@ use Rattle.lk_link.specs.declared.section.InputSlot.TheVariants as slot
 use Rattle.lk_link.specs.declared.symbol.InputSymbol.{InputSymbol}
 use Rattle.lk_link.specs.declared.symbol.SymbolPlacement.{SymbolPlacement}
 use Rattle.lk_link.specs.declared.symbol.SymbolPlacement.TheVariants as at
-use Rattle.lk_link.specs.declared.expression.Operand.{Operand}
 use Rattle.lk_link.specs.declared.expression.Operand.TheVariants as operand
 use Rattle.lk_link.specs.declared.expression.Token.{Token}
 use Rattle.lk_link.specs.declared.expression.Token.TheVariants as token
@@ -33,7 +32,7 @@ pub use Rattle.lk_link.specs.NumberedSymbols.{numbered_symbols, symbols_of}
 use Rattle.lk_link.specs.PartRules.{is_part}
 use Rattle.lk_link.specs.Relocations.{resolution_flags}
 use Rattle.lk_link.specs.SectionGroups.{group_members}
-use Rattle.lk_link.specs.Symbols.{definition_of, first_symbol, is_canonical}
+use Rattle.lk_link.specs.Symbols.{definition_of, first_symbol, is_canonical, is_named}
 use Rattle.lk_reach.specs.declared.exports.ExportSymbolsMode.TheVariants as mode
 use Rattle.lk_reach.specs.Exports.{is_exported, is_own_definition, list_for, mode_of}
 use Rattle.lk_link.specs.SymbolPlacements.{edge_of, is_provided}
@@ -126,14 +125,10 @@ coming_asks id sections members = map (Section id) (filter (is_coming sections) 
 abbrev pub other_asks : FileId → List InputSection → ℕ → List ℕ → List Ask
 other_asks id sections own members = map (Section id) (filter (is_other sections own) members)
 
--- what a section asks for of the group that it is in, if it is in one: the other members that come along
-abbrev pub group_asks : FileId → List InputSection → ℕ → Option ℕ → List Ask
-group_asks id sections own None = []
-group_asks id sections own (Some group) = other_asks id sections own (group_members sections group)
-
--- the same, for a section that is kept itself
+-- what a section asks for of the group that it is in, if it is kept itself and in one: the other members that come along
 abbrev pub member_asks : FileId → List InputSection → ℕ → InputSection → List Ask
-member_asks id sections own s = if can_be_kept s.slot then group_asks id sections own s.group else []
+member_asks id sections own s =
+    if can_be_kept s.slot then option_map_or (λ g. other_asks id sections own (group_members sections g)) s.group [] else []
 
 -- ---- sections of the link
 
@@ -150,13 +145,9 @@ asked_references link id i =
 -- ---- expressions
 
 -- what a piece of an expression refers to: what stands for its symbol, directly
-abbrev pub operand_ask : List (List InputFile) → Operand → Option Ask
-operand_ask groups (operand.Symbol s) = option_map (λ d. Reference d flag.DIRECT) (definition_of groups s)
-operand_ask groups _ = None
-
 abbrev pub token_ask : List (List InputFile) → Token → Option Ask
-token_ask groups (token.Operand o) = operand_ask groups o
-token_ask groups (token.Operator o) = None
+token_ask groups (token.Operand (operand.Symbol s)) = option_map (λ d. Reference d flag.DIRECT) (definition_of groups s)
+token_ask groups _ = None
 
 abbrev pub token_asks : List (List InputFile) → List Token → List Ask
 token_asks groups tokens = flat_map (λ t. option_to_list (token_ask groups t)) tokens
@@ -167,10 +158,6 @@ redirect_references groups s e = Reference s flag.DIRECT ∷ token_asks groups (
 
 -- ---- symbols of each kind of file (libwild: `load_symbol`)
 
--- a symbol of an object asks for its section, if it has one
-abbrev pub object_symbol_asks : FileId → SymbolPlacement → List Ask
-object_symbol_asks id p = option_to_list (option_map (Section id) (section_of p))
-
 -- a candidate, as what is asked for
 abbrev pub candidate_ask : Candidate → Ask
 candidate_ask c = Section c.file c.index
@@ -179,34 +166,25 @@ candidate_ask c = Section c.file c.index
 abbrev pub candidate_asks : List Candidate → ℕ → List Ask
 candidate_asks candidates o = map candidate_ask (candidates_of o candidates)
 
--- a symbol of a synthetic file at the start or an end of an output section asks for the file's candidates of that section
-abbrev pub synthetic_symbol_asks : List Candidate → SymbolPlacement → List Ask
-synthetic_symbol_asks candidates p = option_map_or (candidate_asks candidates) (edge_of p) []
-
 -- a redirect of a script asks for itself and the symbols of its expression
 abbrev pub script_redirect_asks : List (List InputFile) → ℕ → SymbolPlacement → List Ask
 script_redirect_asks groups s (at.Redirect e l provide) = redirect_references groups s e
 script_redirect_asks groups s _ = []
 
--- whether a symbol is shown to other files: it has a name, and isn't hidden
-abbrev pub is_shown : InputSymbol → Bool
-is_shown x = not (length x.name == 0) && not x.hidden
-
--- a symbol of a script that is shown asks for itself, for the dynamic linker
+-- a symbol of a script that has a name and isn't hidden asks for itself, for the dynamic linker
 abbrev pub shown_ask : ℕ → InputSymbol → Option Ask
-shown_ask s x = if is_shown x then Some (Reference s flag.EXPORT_DYNAMIC) else None
+shown_ask s x = if is_named x && not x.hidden then Some (Reference s flag.EXPORT_DYNAMIC) else None
 
 abbrev pub script_symbol_asks : List (List InputFile) → ℕ → InputSymbol → List Ask
 script_symbol_asks groups s x = script_redirect_asks groups s x.at ++ option_to_list (shown_ask s x)
 
--- what a symbol, with its number, of a file of a kind asks for; one of another kind asks for nothing
+-- what a symbol, with its number, of a file of a kind asks for: of an object for its section, if it has one; of a synthetic file, at the
+-- start or an end of an output section, for the file's candidates of that section; of a script as above; of another kind for nothing
 abbrev pub kind_asks : List (List InputFile) → ℕ → FileId → InputFile → InputSymbol → FileKind → List Ask
-kind_asks groups s id file x kind.Object = object_symbol_asks id x.at
-kind_asks groups s id file x kind.SyntheticSymbols = synthetic_symbol_asks file.candidates x.at
+kind_asks groups s id file x kind.Object = option_to_list (option_map (Section id) (section_of x.at))
+kind_asks groups s id file x kind.SyntheticSymbols = option_map_or (candidate_asks file.candidates) (edge_of x.at) []
 kind_asks groups s id file x kind.LinkerScript = script_symbol_asks groups s x
-kind_asks groups s id file x kind.Prelude = []
-kind_asks groups s id file x kind.Dynamic = []
-kind_asks groups s id file x kind.NotLoaded = []
+kind_asks groups s id file x _ = []
 
 -- the same, for a symbol with its file
 abbrev pub symbol_asks : List (List InputFile) → ℕ → NumberedFile × InputSymbol → List Ask
@@ -234,31 +212,21 @@ abbrev pub entry_asks : LinkInput → List Ask
 entry_asks link =
     option_to_list (option_map (λ s. Reference s flag.DIRECT) (option_and_then (definition_of link.groups) link.options.entry))
 
--- what a redirect of the prelude, with its number, refers to, if it stands for itself
-abbrev pub redirect_asks : List (List InputFile) → ℕ → InputSymbol → Term → List Ask
-redirect_asks groups s x e =
-    if is_canonical s x then redirect_references groups s e else []
-
 -- what a symbol that is wanted all the same refers to: what stands for it, if that is defined
 abbrev pub forced_ask : List (List InputFile) → ℕ → Option Ask
 forced_ask groups d = if is_defined groups d then Some (Reference d flag.DIRECT) else None
 
--- what the prelude refers to by a symbol of its own, with its number and its placement
+-- what the prelude refers to by a symbol of its own, with its number and its placement: by a redirect that stands for itself, and by one
+-- that is wanted all the same
 abbrev pub own_asks : List (List InputFile) → ℕ → InputSymbol → SymbolPlacement → List Ask
-own_asks groups s x (at.Redirect e l provide) = redirect_asks groups s x e
+own_asks groups s x (at.Redirect e l provide) = if is_canonical s x then redirect_references groups s e else []
 own_asks groups s x at.ForceUndefined = option_to_list (forced_ask groups (unwrap_or x.def s))
 own_asks groups s x _ = []
 
--- the same for all symbols, the first of those given with this number
-abbrev pub prelude_asks : List (List InputFile) → ℕ → List InputSymbol → List Ask
-prelude_asks groups first symbols = flat_map (λ q. own_asks groups q.0 q.1 q.1.at) (enumerate_from first symbols)
-
+-- the same for all symbols
 abbrev pub prelude_symbol_asks : LinkInput → NumberedFile → List Ask
-prelude_symbol_asks link f = prelude_asks link.groups (first_symbol link.groups f.id) f.file.symbols
-
--- what the prelude asks for: the entry, then by its symbols
-abbrev pub prelude_roots : LinkInput → NumberedFile → List Ask
-prelude_roots link f = entry_asks link ++ prelude_symbol_asks link f
+prelude_symbol_asks link f =
+    flat_map (λ q. own_asks link.groups q.0 q.1 q.1.at) (enumerate_from (first_symbol link.groups f.id) f.file.symbols)
 
 -- the sections that an object asks for
 abbrev pub section_roots : Bool → FileId → ℕ → List InputSection → List Ask
@@ -292,50 +260,39 @@ asked_definition link d =
 abbrev pub dynamic_ask : LinkInput → ℕ × InputSymbol → Option Ask
 dynamic_ask link q = option_and_then (λ d. if d == q.0 then None else asked_definition link d) q.1.def
 
--- the same for all symbols, the first of those given with this number (libwild: `request_all_undefined_symbols`)
-abbrev pub dynamic_asks : LinkInput → ℕ → List InputSymbol → List Ask
-dynamic_asks link first symbols = flat_map (λ q. option_to_list (dynamic_ask link q)) (enumerate_from first symbols)
-
--- what a dynamic file asks for
+-- the same for all symbols (libwild: `request_all_undefined_symbols`)
 abbrev pub dynamic_roots : LinkInput → NumberedFile → List Ask
-dynamic_roots link f = dynamic_asks link (first_symbol link.groups f.id) f.file.symbols
+dynamic_roots link f =
+    flat_map (λ q. option_to_list (dynamic_ask link q)) (enumerate_from (first_symbol link.groups f.id) f.file.symbols)
 
 -- whether a symbol of a script is asked for by the script: it stands for itself, and isn't only provided
 abbrev pub is_script_root : ℕ × InputSymbol → Bool
 is_script_root q = is_canonical q.0 q.1 && not (is_provided q.1.at)
 
--- those of a script's symbols, the first of them given with this number
-abbrev pub wanted_asks : ℕ → List InputSymbol → List Ask
-wanted_asks first symbols = map (λ q. Reference q.0 (flags_from 0)) (filter is_script_root (enumerate_from first symbols))
+-- those of a script's symbols
+abbrev pub wanted_symbol_asks : LinkInput → NumberedFile → List Ask
+wanted_symbol_asks link f =
+    map (λ q. Reference q.0 (flags_from 0)) (filter is_script_root (enumerate_from (first_symbol link.groups f.id) f.file.symbols))
 
 -- what an event that sets the location counter refers to: the symbols of its expression
 abbrev pub event_asks : List (List InputFile) → OrderEvent → List Ask
 event_asks groups (event.SetLocation e) = token_asks groups (postfix e)
 event_asks groups (event.SetLocationRelative e s) = token_asks groups (postfix e)
-event_asks groups (event.SetSectionAddress e) = []
-event_asks groups (event.Section s) = []
-event_asks groups (event.SegmentStart i) = []
-event_asks groups (event.SegmentEnd i) = []
+event_asks groups _ = []
 
 -- what all of them refer to
 abbrev pub location_asks : LinkInput → List Ask
 location_asks link = flat_map (event_asks link.groups) link.plan.events
 
--- what a script asks for: by its symbols, then by the location counter's expressions
-abbrev pub wanted_symbol_asks : LinkInput → NumberedFile → List Ask
-wanted_symbol_asks link f = wanted_asks (first_symbol link.groups f.id) f.file.symbols
-
-abbrev pub script_roots : LinkInput → NumberedFile → List Ask
-script_roots link f = wanted_symbol_asks link f ++ location_asks link
-
--- what a file of a kind asks for by itself; synthetic files and those that aren't loaded ask for nothing (libwild: `activate`)
+-- what a file of a kind asks for by itself: the prelude for the entry, and by its symbols; an object for sections, and by what it exports; a
+-- script by its symbols, then by the location counter's expressions; synthetic files and those that aren't loaded for nothing
+-- (libwild: `activate`)
 abbrev pub kind_roots : LinkInput → NumberedFile → FileKind → List Ask
-kind_roots link f kind.Prelude = prelude_roots link f
+kind_roots link f kind.Prelude = entry_asks link ++ prelude_symbol_asks link f
 kind_roots link f kind.Object = section_roots link.options.gc f.id 0 f.file.sections ++ export_roots link f
 kind_roots link f kind.Dynamic = dynamic_roots link f
-kind_roots link f kind.LinkerScript = script_roots link f
-kind_roots link f kind.SyntheticSymbols = []
-kind_roots link f kind.NotLoaded = []
+kind_roots link f kind.LinkerScript = wanted_symbol_asks link f ++ location_asks link
+kind_roots link f _ = []
 
 abbrev pub file_roots : LinkInput → NumberedFile → List Ask
 file_roots link f = kind_roots link f f.file.kind

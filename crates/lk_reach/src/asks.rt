@@ -240,9 +240,11 @@ impl<'a> Model for DynamicRoots<'a> {
 
     ghost coded = { Prim.hlevel (codes, expression.the_row.coded) };
 
-    ghost use Rattle.lk_reach.specs.Units.{dynamic_asks};
+    ghost use Rattle.std.specs.List.{enumerate_from, flat_map};
+    ghost use Rattle.std.specs.Option.{option_to_list};
+    ghost use Rattle.lk_reach.specs.Units.{dynamic_ask};
 
-    ghost view = { λ a. dynamic_asks a.link.now a.number a.symbols.now };
+    ghost view = { λ a. flat_map (λ q. option_to_list (dynamic_ask a.link.now q)) (enumerate_from a.number a.symbols.now) };
 
     ghost invariant = { λ a. IsWellFormed a.link.now × (a.number + length a.symbols.now < 2 ^ 32) };
 }
@@ -338,9 +340,10 @@ impl<'a> Model for PreludeRoots<'a> {
 
     ghost coded = { Prim.hlevel (codes, expression.the_row.coded) };
 
-    ghost use Rattle.lk_reach.specs.Units.{prelude_asks};
+    ghost use Rattle.std.specs.List.{enumerate_from, flat_map};
+    ghost use Rattle.lk_reach.specs.Units.{own_asks};
 
-    ghost view = { λ a. a.own ++ prelude_asks a.groups.now a.number a.symbols.now };
+    ghost view = { λ a. a.own ++ flat_map (λ q. own_asks a.groups.now q.0 q.1 q.1.at) (enumerate_from a.number a.symbols.now) };
 
     ghost invariant = { λ a. a.number + length a.symbols.now < 2 ^ 32 };
 }

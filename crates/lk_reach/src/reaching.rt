@@ -1,14 +1,17 @@
 //! What units and files of a link ask for.
 
-ghost use Rattle.std.specs.Prelude.{◌≡◌, ◌++◌, Some};
+ghost use Rattle.std.specs.Prelude.{◌≡◌, [], ◌++◌, Some, option_map};
 ghost use Rattle.std.specs.List.{flat_map};
-ghost use Rattle.std.specs.Option.{option_to_list};
+ghost use Rattle.std.specs.Option.{option_map_or, option_to_list};
 ghost use Rattle.lk_link.specs.Files.{file_in};
+ghost use Rattle.lk_link.specs.declared.expression.Token.TheVariants as token;
 ghost use Rattle.lk_link.specs.InputSlots.{is_regular};
+ghost use Rattle.lk_link.specs.SymbolPlacements.{edge_of, section_of};
 ghost use Rattle.lk_link.specs.Walks.{file_of};
 ghost use Rattle.lk_link.specs.WellFormed.{IsWellFormed};
+ghost use Rattle.lk_reach.specs.declared.units.Ask.TheVariants.{Section};
 ghost use Rattle.lk_reach.specs.declared.units.Unit.TheVariants.{Sym, Sec};
-ghost use Rattle.lk_reach.specs.Units.{all_of, asked_definition, asked_members, asked_references, definition_ask, dynamic_ask, dynamic_roots, entry_asks, export_roots, forced_ask, operand_ask, own_asks, prelude_symbol_asks, token_ask, event_asks, file_roots, follows, is_primary_section, is_script_root, kind_asks, object_symbol_asks, roots, section_roots, script_redirect_asks, script_symbol_asks, shown_ask, synthetic_symbol_asks, wanted_symbol_asks};
+ghost use Rattle.lk_reach.specs.Units.{all_of, asked_definition, asked_members, asked_references, definition_ask, dynamic_ask, dynamic_roots, entry_asks, export_roots, forced_ask, own_asks, prelude_symbol_asks, token_ask, event_asks, file_roots, follows, is_primary_section, is_script_root, kind_asks, roots, section_roots, script_redirect_asks, script_symbol_asks, shown_ask, wanted_symbol_asks, candidate_asks};
 
 use crate::asks::{
     DynamicRoots, ExportRoots, ExpressionAsks, MemberAsks, ObjectRoots, PreludeRoots,
@@ -123,7 +126,7 @@ fn kind_asks<'a>(
 
 /// The section that a symbol of an object is placed in, if it is.
 fn placed_section(id: FileId, at: &SymbolPlacement) -> Option<Ask>
-    ensures { option_to_list result ≡ object_symbol_asks id at.now }
+    ensures { result ≡ option_map (Section id) (section_of at.now) }
 {
     match at {
         SymbolPlacement::Section { index, .. } => Some(Ask::Section(id, *index)),
@@ -133,7 +136,7 @@ fn placed_section(id: FileId, at: &SymbolPlacement) -> Option<Ask>
 
 /// The candidates of the output section at whose start or end a symbol of a synthetic file is.
 fn edge_candidates<'a>(file: &'a InputFile, at: &SymbolPlacement) -> Successors<'a>
-    ensures { result ≡ synthetic_symbol_asks file.now.candidates at.now }
+    ensures { result ≡ option_map_or (candidate_asks file.now.candidates) (edge_of at.now) [] }
 {
     match at.edge_of() {
         Some(output) => Successors::from_candidates(file.candidates.of(output)),
@@ -477,7 +480,7 @@ pub(crate) fn token_ask(groups: &InputGroups, token: Token) -> Option<Ask>
 
 /// The same for an operand.
 fn operand_ask(groups: &InputGroups, operand: Operand) -> Option<Ask>
-    ensures { result ≡ operand_ask groups.now operand }
+    ensures { result ≡ token_ask groups.now (token.Operand operand) }
 {
     match operand {
         Operand::Symbol(symbol) => {

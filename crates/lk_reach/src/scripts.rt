@@ -93,7 +93,7 @@ pub(crate) struct WantedAsks<'a> {
 }
 
 impl<'a> Model for WantedAsks<'a> {
-    ghost use Rattle.std.specs.Prelude.{◌+◌, ◌<◌, ◌^◌, List, length};
+    ghost use Rattle.std.specs.Prelude.{◌+◌, ◌<◌, ◌^◌, List, filter, length, map};
     ghost use Rattle.std.specs.Coded.{codes};
     ghost use Rattle.lk_link.specs.contracts.expression.Expression as expression;
     ghost use Rattle.lk_reach.specs.declared.units.Ask.{Ask};
@@ -102,9 +102,11 @@ impl<'a> Model for WantedAsks<'a> {
 
     ghost coded = { Prim.hlevel (codes, expression.the_row.coded) };
 
-    ghost use Rattle.lk_reach.specs.Units.{wanted_asks};
+    ghost use Rattle.std.specs.List.{enumerate_from};
+    ghost use Rattle.lk_reach.specs.declared.units.Ask.TheVariants.{Reference};
+    ghost use Rattle.lk_reach.specs.Units.{flags_from, is_script_root};
 
-    ghost view = { λ a. wanted_asks a.number a.symbols.now };
+    ghost view = { λ a. map (λ q. Reference q.0 (flags_from 0)) (filter is_script_root (enumerate_from a.number a.symbols.now)) };
 
     ghost invariant = { λ a. a.number + length a.symbols.now < 2 ^ 32 };
 }

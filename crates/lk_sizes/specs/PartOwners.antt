@@ -48,6 +48,11 @@ thunk_key link _ = None
 
 -- ---- addresses of live sections
 
+-- the address of the owner of a part with this number, by the starts of all parts in memory
+abbrev pub numbered_address : Filling → List ℕ → ℕ → ℕ → ℕ
+numbered_address filling starts p k =
+    owner_address (slice_index starts p) (part_at filling.content.link.plan.sections p) (owners_of filling p) k
+
 -- how many owners of its part stand before a live section
 abbrev pub owner_number : Filling → Input → ℕ
 owner_number filling x =
@@ -56,10 +61,7 @@ owner_number filling x =
 
 -- a live section's address, by the starts of all parts in memory
 abbrev pub live_address : Filling → List ℕ → Input → ℕ
-live_address filling starts x =
-    let p = x.section.part in
-    let sections = filling.content.link.plan.sections in
-    owner_address (slice_index starts p) (part_at sections p) (owners_of filling p) (owner_number filling x)
+live_address filling starts x = numbered_address filling starts x.section.part (owner_number filling x)
 
 -- ---- addresses of commons
 
@@ -69,9 +71,7 @@ common_number filling p s = position_or_len (has_key common_key s) (owners_of fi
 
 -- the address of the common of a part with this symbol, by the starts of all parts in memory
 abbrev pub common_address : Filling → List ℕ → ℕ → ℕ → ℕ
-common_address filling starts p s =
-    let sections = filling.content.link.plan.sections in
-    owner_address (slice_index starts p) (part_at sections p) (owners_of filling p) (common_number filling p s)
+common_address filling starts p s = numbered_address filling starts p (common_number filling p s)
 
 -- ---- blocks of thunks
 
@@ -83,9 +83,7 @@ thunk_number filling p id =
 
 -- the address of the block that a file owns in a part, by the starts of all parts in memory
 abbrev pub block_address : Filling → List ℕ → ℕ → FileId → ℕ
-block_address filling starts p id =
-    let sections = filling.content.link.plan.sections in
-    owner_address (slice_index starts p) (part_at sections p) (owners_of filling p) (thunk_number filling p id)
+block_address filling starts p id = numbered_address filling starts p (thunk_number filling p id)
 
 -- ---- ends
 

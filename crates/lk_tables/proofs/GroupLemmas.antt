@@ -1,6 +1,6 @@
 -- Singletons by group: what is counted on the way, and that each is in one group.
-use Rattle.std.proofs.Common.{◌≡◌, ℕ, zero, suc, ◌+◌, ◌-◌, ◌<◌, ◌≤◌, ◌^◌, ◌==◌, ◌&&◌, cond, min, Bool, true, false, if◌then◌else◌, List, [], ◌∷◌, ◌++◌, All, filter, length, map, replicate, sum_by, refl, sym, ap, ◌∙◌, arith}
-use Rattle.std.specs.List.{count_by, enumerate_from, flat_map, slice_index_or}
+use Rattle.std.proofs.Common.{◌≡◌, ℕ, zero, suc, ◌+◌, ◌-◌, ◌<◌, ◌≤◌, ◌^◌, ◌==◌, ◌&&◌, cond, min, Bool, true, false, if◌then◌else◌, List, [], ◌∷◌, ◌++◌, All, filter, length, map, replicate, sum_by, refl, ap, ◌∙◌, arith}
+use Rattle.std.specs.List.{count_by, enumerate_from, slice_index_or}
 use Rattle.std.proofs.lemmas.List.{length-replicate}
 use Rattle.std.proofs.lemmas.List.Elements.{All-append, All-cons, All-filter, All-head, All-map, All-nil, All-tail}
 use Rattle.std.proofs.lemmas.List.Sums.{count_by-le-length, length-filter, sum_by-cons}

@@ -10,17 +10,13 @@ use Rattle.lk_link.specs.TableSizes.{behind}
 use Rattle.lk_live.specs.declared.live.Live.{Live}
 use Rattle.lk_reach.specs.Units.{numbered_symbols}
 use Rattle.lk_tables.specs.SymbolEntries.{allocated, got_entries, is_resolved, plt_entries, symbol_allocation}
-use Rattle.lk_tables.specs.SymbolTable.{FileEntry, FirstEntry, InputEntry, SectionEntry, SegmentEntry, SymbolEntry, TableEntry, TableOwner, entry_bytes}
+use Rattle.lk_tables.specs.SymbolTable.{SymbolEntry, TableEntry, TableOwner, entry_bytes}
 use Rattle.lk_tables.specs.TableTiles.{entry_address}
 
 -- whether an entry is this symbol's
 abbrev pub is_owner : ℕ → TableOwner → Bool
-is_owner s FirstEntry = false
 is_owner s (SymbolEntry t) = t == s
-is_owner s FileEntry = false
-is_owner s (SegmentEntry i) = false
-is_owner s (SectionEntry i) = false
-is_owner s (InputEntry f i) = false
+is_owner s _ = false
 
 abbrev pub is_of : ℕ → TableEntry → Bool
 is_of s e = is_owner s e.owner

@@ -67,53 +67,46 @@ file_export_names link live f = map name_of (filter (is_export live f) (symbols_
 abbrev pub if_dynamic : LinkInput → List TableEntry → List TableEntry
 if_dynamic link entries = if is_loaded_dynamically link.options.output then entries else []
 
--- ---- what is known first
+-- ---- what is known of the tables
 
 -- the files but the prelude
 abbrev pub other_files : LinkInput → List NumberedFile
 other_files link = filter (λ f. not (is_prelude f.file.kind)) (numbered_files link.groups)
 
--- the tables as far as they are known before it is known which sections are emitted: all of got and plt, what other files than the prelude
--- take for symbols, and what is exported; no table's own entry, and no header. Only symbols of the prelude are marked late
-abbrev pub first_tables : TableSizes → LinkInput → Live → TableLists
-first_tables sizes link live = record {
+-- the tables by the sections whose edges are told, as far as these files bring entries for symbols, without headers: in got and plt what
+-- each symbol of all files with a resolution asks for; what the tables of symbols have themselves, and an entry for each copied symbol, file
+-- by file, and their names; the dynamic symbols of the files, behind what the dynamic tables have themselves by its bytes, and what all
+-- files export, and their names
+abbrev pub tables_by : TableSizes → LinkInput → Live → List Bool → List NumberedFile → (ℕ → List TableEntry) → TableLists
+tables_by sizes link live told files own = record {
   got = flat_map (got_entries sizes.allocation link live) (numbered_files link.groups);
   plt = flat_map (plt_entries sizes.allocation link live) (numbered_files link.groups);
-  symtab_local = flat_map (local_entries sizes.symbol_entry link live []) (other_files link);
-  symtab_global = flat_map (global_entries sizes.symbol_entry link live []) (other_files link);
-  strtab = flat_map (name_entries link live []) (other_files link);
-  dynsym = if_dynamic link (flat_map (file_dynamic_entries sizes.symbol_entry link live []) (other_files link)
-      ++ flat_map (file_export_entries sizes.symbol_entry link live) (numbered_files link.groups));
-  dynstr = if_dynamic link (flat_map (file_dynamic_names link live []) (other_files link)
-      ++ flat_map (file_export_names link live) (numbered_files link.groups));
+  symtab_local = flat_map (local_entries sizes.symbol_entry link live told) files;
+  symtab_global = flat_map (global_entries sizes.symbol_entry link live told) files;
+  strtab = flat_map (name_entries link live told) files;
+  dynsym = if_dynamic link (own sizes.symbol_entry ++ (flat_map (file_dynamic_entries sizes.symbol_entry link live told) files
+      ++ flat_map (file_export_entries sizes.symbol_entry link live) (numbered_files link.groups)));
+  dynstr = if_dynamic link (own 1 ++ (flat_map (file_dynamic_names link live told) files
+      ++ flat_map (file_export_names link live) (numbered_files link.groups)));
   file_header = [];
   program_headers = [];
   section_headers = [];
   shstrtab = [];
 }
 
--- ---- the whole tables
+-- the tables as far as they are known before it is known which sections are emitted: without what the prelude brings but in got and plt and
+-- by exports, since only symbols of the prelude are marked late; no table's own entry, and no header
+abbrev pub first_tables : TableSizes → LinkInput → Live → TableLists
+first_tables sizes link live = tables_by sizes link live [] (other_files link) (λ bytes. [])
 
--- the tables, by the sections whose edges are told, those that are emitted and the active segments
+-- the whole tables, by the sections whose edges are told, those that are emitted and the active segments: by all files, each dynamic table
+-- behind an entry of its own; with the file's header, one for each active segment, and one for each emitted section and each singleton, and
+-- the names of these
 abbrev pub whole_tables : TableSizes → LinkInput → Live → List Bool → List Bool → List ℕ → TableLists
-whole_tables sizes link live told emitted active = record {
-  -- what each symbol with a resolution asks for, file by file
-  got = flat_map (got_entries sizes.allocation link live) (numbered_files link.groups);
-  plt = flat_map (plt_entries sizes.allocation link live) (numbered_files link.groups);
-  -- what the tables have themselves, and an entry for each copied symbol, file by file; their names
-  symtab_local = flat_map (local_entries sizes.symbol_entry link live told) (numbered_files link.groups);
-  symtab_global = flat_map (global_entries sizes.symbol_entry link live told) (numbered_files link.groups);
-  strtab = flat_map (name_entries link live told) (numbered_files link.groups);
-  -- the table's own entry, the dynamic symbols file by file, and what is exported; their names
-  dynsym = if_dynamic link (first_entry sizes.symbol_entry
-      ∷ (flat_map (file_dynamic_entries sizes.symbol_entry link live told) (numbered_files link.groups)
-      ++ flat_map (file_export_entries sizes.symbol_entry link live) (numbered_files link.groups)));
-  dynstr = if_dynamic link (first_entry 1
-      ∷ (flat_map (file_dynamic_names link live told) (numbered_files link.groups)
-      ++ flat_map (file_export_names link live) (numbered_files link.groups)));
-  -- the file's header, one for each active segment, and one for each emitted section and each singleton; the names of these
-  file_header = file_header_entries sizes.file_header;
-  program_headers = program_header_entries sizes.program_header active;
-  section_headers = section_header_entries sizes.section_header link live emitted;
-  shstrtab = section_name_entries link live emitted;
-}
+whole_tables sizes link live told emitted active =
+    record (tables_by sizes link live told (numbered_files link.groups) (λ bytes. first_entry bytes ∷ [])) {
+      file_header = file_header_entries sizes.file_header;
+      program_headers = program_header_entries sizes.program_header active;
+      section_headers = section_header_entries sizes.section_header link live emitted;
+      shstrtab = section_name_entries link live emitted;
+    }

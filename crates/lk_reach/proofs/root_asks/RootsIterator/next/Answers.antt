@@ -1,7 +1,6 @@
-use Rattle.std.proofs.Common.{◌≡◌, List, [], ◌∷◌, ◌++◌, All, sym, ap, subst, ◌∙◌}
+use Rattle.std.proofs.Common.{◌≡◌, [], ◌++◌, All, sym, ap, subst, ◌∙◌}
 use Rattle.std.specs.List.{flat_map}
 use Rattle.std.proofs.lemmas.List.Elements.{All-tail}
-use Rattle.lk_link.specs.Inputs.{NumberedFile}
 use Rattle.lk_link.specs.Walks.{file_of}
 use Rattle.lk_reach.specs.Askers.{IsFileOf}
 use Rattle.lk_reach.specs.Units.{file_roots}

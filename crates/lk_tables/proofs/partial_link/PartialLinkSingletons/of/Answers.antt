@@ -1,4 +1,4 @@
-use Rattle.std.proofs.Common.{sym, ap, ◌∙◌, arith}
+use Rattle.std.proofs.Common.{sym, ap, ◌∙◌}
 use Rattle.lk_tables.specs.SingletonCounts.{singleton_count}
 use Rattle.lk_tables.proofs.GroupLemmas.{sizes_count}
 use Rattle.lk_tables.proofs.partial_link.PartialLinkSingletons.of.Goals as goal
