@@ -18,13 +18,16 @@ use Rattle.lk_place.specs.declared.cursors.Offsets.{Offsets}
 use Rattle.lk_place.specs.declared.error.Refusal.{Refusal}
 use Rattle.lk_place.specs.InRegions.{past_region, stands_in}
 use Rattle.lk_place.specs.PlacedBefore.{PlacedRecords, is_placing, is_placing_part, lies_in, standing_before}
-use Rattle.lk_place.specs.Placement.{IsPlacedBefore, either_refusal, load_by, load_given, load_refusal, placing_refusal, record_by, records_by, section_left, section_refusal, section_start, standing_with}
+use Rattle.lk_place.specs.Placement.{load_by, load_given, record_by, records_by, section_left, section_start, standing_with, unless}
+use Rattle.lk_place.specs.CarriedOut.{IsPlacedBefore, either_refusal, load_refusal, placing_refusal, section_refusal}
 use Rattle.lk_expressions.specs.Records.{Record, nowhere, record_at}
 use Rattle.lk_place.specs.Segments.{hull, part_records}
 use Rattle.lk_place.specs.Setting.{IsReady, Setting, part_count, part_number}
-use Rattle.lk_place.specs.Walk.{Rewrites, all_loaded, all_written, left_behind, load_or_none, rewritten, unless}
-use Rattle.lk_place.proofs.Knowing.{part_of, parts_count, standing_alike}
-use Rattle.lk_place.proofs.WalkRecords.{PlacesAt, among_other, among_part, section_there}
+use Rattle.lk_place.specs.Walk.{Rewrites, all_loaded, all_written, left_behind, load_or_none, rewritten}
+use Rattle.lk_place.proofs.Knowing.{standing_alike}
+use Rattle.lk_place.proofs.SectionParts.{part_of, parts_count}
+use Rattle.lk_place.proofs.WalkRecords.{PlacesAt, among_other, section_there}
+use Rattle.lk_place.proofs.PartEvents.{among_part}
 
 -- ---- one element more
 

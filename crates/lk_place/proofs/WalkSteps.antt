@@ -14,7 +14,8 @@ use Rattle.lk_place.specs.declared.cursors.Cursors.{Cursors}
 use Rattle.lk_place.specs.declared.error.PlaceError.{PlaceError}
 use Rattle.lk_place.specs.declared.error.PlaceError.TheVariants.{AddressOverflow, BaseTooLow, Expression, LocationBackwards, NoMemory, OutsideRegion, RegionDuplicate, RegionOverflow, RegionUnknown, SectionOutsideSegments}
 use Rattle.lk_place.specs.declared.error.Refusal.{Refusal}
-use Rattle.lk_place.specs.Placement.{event_refusal, numbered, refusal_of}
+use Rattle.lk_place.specs.Placement.{numbered, refusal_of, unless}
+use Rattle.lk_place.specs.CarriedOut.{event_refusal}
 use Rattle.lk_place.specs.Counters.{told_counter}
 use Rattle.lk_place.specs.InRegions.{span_of}
 use Rattle.lk_place.specs.PlacedBefore.{Known, last_before}
@@ -22,7 +23,8 @@ use Rattle.lk_expressions.specs.Records.{Record, nowhere}
 use Rattle.lk_place.specs.Setting.{Setting}
 use Rattle.lk_place.specs.Start.{BeginsAt, start}
 use Rattle.lk_place.specs.ThreadLocal.{is_in_run}
-use Rattle.lk_place.specs.Walk.{AllPass, GivesWalked, GoesOn, goes_on_after, told_after, went_on, StopsBy, at_event, begun, cursors_after, first_state, known_after, refused_at, walk_after, record_after, recorded, left_by, unless}
+use Rattle.lk_place.specs.Walk.{AllPass, GivesWalked, GoesOn, goes_on_after, told_after, went_on, StopsBy, at_event, begun, cursors_after, first_state, known_after, refused_at, walk_after, record_after, recorded, left_by}
+use Rattle.lk_place.proofs.EventSteps.{first_steps_refuse}
 use Rattle.lk_place.proofs.LastOnes.{last_next}
 
 -- the walk begins where the placement does
@@ -101,7 +103,7 @@ pub stops : (setting : Setting) (k : ℕ) (e : OrderEvent) (from : Cursors) (end
 stops setting k e from end err tried h =
     let known : Known = known_after setting k in
     let there : Err err ≡ at_event (unless (event_refusal setting known e from) (left_by setting known (Some e) from)) k = h ∙ ap (λ (r : Result Cursors Refusal). at_event r k) tried.gave in
-    let refused : refusal_of setting known k (Some e) from ≡ Some err = told_refused setting k (left_by setting known (Some e) from) (event_refusal setting known e from) err there in
+    let refused : refusal_of setting known k (Some e) from ≡ Some err = first_steps_refuse setting known k e from ∙ told_refused setting k (left_by setting known (Some e) from) (event_refusal setting known e from) err there in
     record {
       k = k;
       before = tried.before;
@@ -127,6 +129,7 @@ passes_on setting k e from to end tried h =
     let here : refused_at setting k ≡ None =
     ap (λ (o : Option OrderEvent). refusal_of setting (known_after setting k) k o (cursors_after setting k)) tried.here
     ∙ ap (refusal_of setting (known_after setting k) k (Some e)) (sym tried.so_far)
+    ∙ first_steps_refuse setting (known_after setting k) k e from
     ∙ ap (option_map (numbered k)) (passed setting k e from to end tried h).0 in
     below_more (λ (j : ℕ). refused_at setting j ≡ None) k tried.before here
 

@@ -21,8 +21,7 @@ use Rattle.lk_place.specs.Alignments.{section_alignment, section_alignments, seg
 use Rattle.lk_place.specs.Counters.{told_counter}
 use Rattle.lk_place.specs.InRegions.{named_region, places_in, span_of}
 use Rattle.lk_place.specs.AtHand.{AreAtHand}
-use Rattle.lk_place.specs.Placement.{first_record, first_walked, is_below, load_given, moved, next_record, numbered, overflow_at}
-use Rattle.lk_place.specs.Placement.{record_by, refusal_of, section_left, section_start}
+use Rattle.lk_place.specs.Placement.{first_record, first_walked, is_below, load_given, loaded_by, moved, next_record, numbered, overflow_at, record_by, refusal_of, section_left, section_start, unless}
 use Rattle.lk_place.specs.PlacedBefore.{Known, PlacedRecords, last_before, lies_in, standing_before}
 use Rattle.lk_expressions.specs.Records.{Record, nowhere, record_at}
 use Rattle.lk_place.specs.Setting.{IsReady, Setting, part_count, setting_of}
@@ -59,11 +58,6 @@ pub record IsWalkable {P : Type 0} (start : P → ℕ → ℕ → ℕ → ℕ) (
   pub constants : AreAtHand walk.link.now.plan (constants_by walk.link.now.groups walk.unplaced.now.headers walk.unplaced.now.regions.now) walk.unplaced.now.constants.now
   pub section_regions : walk.section_regions.now ≡ map (λ s. named_region walk.link.now.plan.regions s.region) walk.link.now.plan.sections
   pub placed_at : ArePlacedAt walk.link.now.plan (length walk.link.now.plan.events) walk.placed_at.now
-
--- the refusal, if there is one, else what there is
-abbrev pub unless : {X E : Type 0} → Option E → X → Result X E
-unless None x = Ok x
-unless (Some e) x = Err e
 
 -- offsets, unless they are past 2^64 - 1
 abbrev pub fitting : Offsets → Result Offsets Refusal
@@ -103,11 +97,6 @@ one_written setting s begin q from p old = if p == q then next_record setting s 
 abbrev pub all_written : Setting → ℕ → Offsets → ℕ → Record → Record
 all_written setting s begin p old =
     if lies_in (first_part setting.plan.sections s) (part_count setting.plan.sections s) p then record_by setting s begin p else old
-
--- a record, loaded from this address, if there is one
-abbrev pub loaded_by : Option ℕ → Record → Record
-loaded_by None r = r
-loaded_by (Some address) r = record r { lma_offset = address }
 
 -- what the load address of a section makes of the record of part p
 abbrev pub all_loaded : Setting → ℕ → Option ℕ → ℕ → Record → Record

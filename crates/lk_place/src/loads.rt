@@ -9,9 +9,10 @@ ghost use Rattle.lk_link.specs.Parts.{all_parts};
 ghost use Rattle.lk_link.specs.PlanSections.{section_at};
 ghost use Rattle.lk_place.specs.AtHand.{AreEvaluableLoads};
 ghost use Rattle.lk_place.specs.PlacedBefore.{lies_in, standing_before};
-ghost use Rattle.lk_place.specs.Placement.{load_by, loading, placing_refusal, section_left};
+ghost use Rattle.lk_place.specs.Placement.{load_by, loading, section_left, loaded_by, unless};
+ghost use Rattle.lk_place.specs.CarriedOut.{placing_refusal};
 ghost use Rattle.lk_expressions.specs.Records.{record_at};
-ghost use Rattle.lk_place.specs.Walk.{IsWalkable, Rewrites, all_loaded, loaded_by, rewritten, setting_in, unless};
+ghost use Rattle.lk_place.specs.Walk.{IsWalkable, Rewrites, all_loaded, rewritten, setting_in};
 
 use crate::cursors::Cursors;
 use crate::error::Refusal;

@@ -22,7 +22,8 @@ ghost use Rattle.std.specs.Option.{option_map_or};
 ghost use Rattle.lk_place.specs.InRegions.{span_of};
 ghost use Rattle.lk_place.specs.Locations.{behind_start, within_64};
 ghost use Rattle.lk_place.specs.PlacedBefore.{early_value, last_before, standing_before, value_at};
-ghost use Rattle.lk_place.specs.Placement.{begun_section, event_refusal, memory_moved, moved, numbered, opened, section_refusal};
+ghost use Rattle.lk_place.specs.Placement.{begun_section, memory_moved, moved, numbered, opened, unless};
+ghost use Rattle.lk_place.specs.CarriedOut.{event_refusal, section_refusal};
 ghost use Rattle.lk_expressions.specs.Records.{nowhere, record_at};
 ghost use Rattle.lk_place.specs.Setting.{setting_of};
 ghost use Rattle.lk_place.specs.Start.{first_cursors, start};
@@ -30,7 +31,7 @@ ghost use Rattle.lk_place.specs.ThreadLocal.{begins_run, free_memory, is_in_run,
 ghost use Rattle.lk_link.specs.PlanSections.{is_thread_local, primary_of};
 ghost use Rattle.lk_link.specs.SegmentKinds.{is_load, segment_at};
 ghost use Rattle.lk_place.specs.Walk.{GivesWalked, GoesOn, IsWalkable, Rewrites, known_in, left_behind, recorded, setting_in, left_by};
-ghost use Rattle.lk_place.specs.Walk.{at_event, rewritten, unless};
+ghost use Rattle.lk_place.specs.Walk.{at_event, rewritten};
 
 use crate::alignments::{Alignments, compute_alignments};
 use crate::cursors::Cursors;

@@ -12,7 +12,8 @@ use Rattle.lk_place.specs.declared.cursors.Cursors.{Cursors}
 use Rattle.lk_place.specs.declared.error.Refusal.{Refusal}
 use Rattle.lk_place.specs.InRegions.{past_region, stands_in}
 use Rattle.lk_place.specs.PlacedBefore.{PlacedRecords}
-use Rattle.lk_place.specs.Placement.{IsPlaced, PlacesSection, either_refusal, event_refusal, first_walked, is_walked, known_before, load_given, load_refusal, numbered, placing_refusal, refusal_behind_move, section_left, section_overflow, section_refusal, state_at}
+use Rattle.lk_place.specs.Placement.{IsPlaced, first_walked, is_walked, known_before, load_given, numbered, section_left, section_overflow, state_at}
+use Rattle.lk_place.specs.CarriedOut.{PlacesSection, either_refusal, event_refusal, load_refusal, placing_refusal, refusal_behind_move, section_refusal}
 use Rattle.lk_place_laws.specs.SectionRanges.{FileBytesAreBacked, SectionsFit, span_of}
 use Rattle.lk_place_laws.specs.SegmentHulls.{HoldsRecord}
 use Rattle.lk_place.specs.Segments.{hull, part_records, section_record}
@@ -21,6 +22,7 @@ use Rattle.lk_place_laws.proofs.DistanceLaws.{unbacked_size}
 use Rattle.lk_place_laws.proofs.RefusalLaws.{refused_exactly_past}
 use Rattle.lk_place_laws.proofs.SectionDistances.{count_is, emptied, part_file, part_is, section_is}
 use Rattle.lk_place_laws.proofs.SectionRanges.{all_between, early, hull_in_file, hull_in_memory, least_below, some_part}
+use Rattle.lk_place.proofs.Passing.{events_pass}
 use Rattle.lk_place.proofs.Steps.{step_at}
 
 -- ---- a hull holds each of its records
@@ -76,7 +78,7 @@ parts_fit : (setting : Setting) (states : List Cursors) (records : List Record) 
 parts_fit setting states records ready placed whole s there j below =
     let (k, here) = ready.events.placed s there in
     let before = early setting states k s whole here in
-    let passes = placed.steps k (Section s) (omega (arith, before)) here in
+    let passes = events_pass setting states records ready placed k (Section s) (omega (arith, before)) here in
     let standing : PlacedRecords = (known_before setting states records k).standing in
     let entered : Cursors = passes.steps.entered in
     let none = unnumbered k (event_refusal setting (known_before setting states records k) (Section s) (state_at states k)) passes.unrefused in
@@ -137,7 +139,7 @@ part_nowhere setting s j from to records h none below false is =
 pub file_bytes_are_backed : FileBytesAreBacked
 file_bytes_are_backed setting states records ready placed whole s there bytes =
     let (k, here) = ready.events.placed s there in
-    let step = step_at setting states records k (Section s) placed (early setting states k s whole here) here in
+    let step = step_at setting states records k (Section s) ready placed (early setting states k s whole here) here in
     let to : Cursors = state_at states (k + 1) in (
       elim (cases_Bool (is_file_backed setting.plan s)) [
         | inl backed ↦ backed

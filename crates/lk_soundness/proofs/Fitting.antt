@@ -16,8 +16,10 @@ use Rattle.lk_merge.proofs.AddressLemmas.{are_starts}
 use Rattle.lk_place.specs.declared.error.Refusal.{Refusal}
 use Rattle.lk_place.specs.InRegions.{past_region, stands_in}
 use Rattle.lk_place.specs.PlacedBefore.{PlacedRecords}
-use Rattle.lk_place.specs.Placement.{either_refusal, event_refusal, known_before, load_given, load_refusal, numbered, placing_refusal, refusal_behind_move, section_left, section_overflow, section_refusal, state_at}
+use Rattle.lk_place.specs.Placement.{known_before, load_given, numbered, section_left, section_overflow, state_at}
+use Rattle.lk_place.specs.CarriedOut.{either_refusal, event_refusal, load_refusal, placing_refusal, refusal_behind_move, section_refusal}
 use Rattle.lk_place.specs.PlacementLaws.{PartsTakeTheirBytes}
+use Rattle.lk_place.proofs.Passing.{events_pass}
 use Rattle.lk_place_laws.specs.PlacementLaws.{RefusedExactlyPast}
 use Rattle.lk_expressions.specs.Records.{Record, mem_end, nowhere, record_at}
 use Rattle.lk_place.specs.Setting.{Setting}
@@ -48,7 +50,7 @@ part_fits refused machine link layout laid p within =
     let t : ℕ = at.section in
     let event = laid.good.events.placed t at.there in
     let early : event.0 + 1 < length laid.stage.states = omega (arith, laid.stands.placed.ends laid.unrefused, slice_get_within link.plan.events event.0 (Section t) event.1) in
-    let step = laid.stands.placed.steps event.0 (Section t) early event.1 in
+    let step = events_pass s laid.stage.states laid.stage.records (ready machine link laid.live laid.stage.walked laid.good) laid.stands.placed event.0 (Section t) early event.1 in
     let none = no_refusal event.0 (event_refusal s (known_before s laid.stage.states laid.stage.records event.0) (Section t) (state_at laid.stage.states event.0)) step.unrefused in
     let standing : PlacedRecords = (known_before s laid.stage.states laid.stage.records event.0).standing in
     let unrefused : section_refusal s standing (Some t) step.steps.entered ≡ None = ap (refusal_behind_move s standing (Some t)) (sym step.steps.moves) ∙ none in

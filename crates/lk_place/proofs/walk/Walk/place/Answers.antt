@@ -1,9 +1,10 @@
 use Rattle.std.proofs.Common.{◌∙◌, ℕ, Option, ap, sym}
 use Rattle.lk_link.specs.Inside.{placed_section}
 use Rattle.lk_place.specs.PlacedBefore.{PlacedRecords, standing_before}
-use Rattle.lk_place.specs.Placement.{section_refusal}
+use Rattle.lk_place.specs.CarriedOut.{section_refusal}
 use Rattle.lk_place.specs.Setting.{Setting}
-use Rattle.lk_place.specs.Walk.{left_behind, setting_in, unless}
+use Rattle.lk_place.specs.Walk.{left_behind, setting_in}
+use Rattle.lk_place.specs.Placement.{unless}
 use Rattle.lk_place.proofs.Loading.{region_left}
 use Rattle.lk_place.proofs.walk.Walk.place.Goals as goal
 
