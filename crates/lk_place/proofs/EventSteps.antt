@@ -1,80 +1,103 @@
--- What an event gives, by its first refusal, the cursors that it leaves and the records that it makes.
+-- What an event gives: the cursors that it leaves and the records that it makes, where none of its steps is refused.
 use Rattle.std.proofs.Common.{◌≡◌, ℕ, List, [], Option, Some, None, refl, sym, ap, ◌∙◌}
-use Rattle.std.specs.Prelude.{map, option_map, Result, Ok, Err}
+use Rattle.std.specs.Prelude.{map, Result, Ok, Err}
 use Rattle.lk_link.specs.declared.plan.OrderEvent.{OrderEvent}
 use Rattle.lk_link.specs.Inside.{placed_section}
 use Rattle.lk_place.specs.declared.cursors.Cursors.{Cursors}
 use Rattle.lk_place.specs.declared.error.Refusal.{Refusal}
-use Rattle.lk_place.specs.CarriedOut.{FirstStepsRefuse, either_refusal, event_refusal, load_refusal, refusal_behind_move, section_refusal}
 use Rattle.lk_place.specs.InRegions.{past_region, stands_in}
 use Rattle.lk_place.specs.PlacedBefore.{Known, PlacedRecords}
-use Rattle.lk_place.specs.Placement.{carried_out, load_given, loaded_by, moved, numbered, placed_by, records_by, refused, section_left, section_overflow, section_start, unless}
+use Rattle.lk_place.specs.Placement.{carried_out, load_given, loaded_by, moved, placed_by, records_by, refused, section_left, section_overflow, section_start, unless}
 use Rattle.lk_expressions.specs.Expressions.{◌>>=◌}
 use Rattle.lk_expressions.specs.Records.{Record}
 use Rattle.lk_place.specs.Setting.{Setting}
-use Rattle.lk_place.specs.Walk.{after_move, entered, left_behind, left_by, load_or_none}
+use Rattle.lk_place.specs.Walk.{after_move, entered, left_behind, left_by, load_of, load_or_none}
 use Rattle.lk_place.proofs.SectionParts.{loaded_records}
+
+pub ok_same : {X : Type 0} (x y : X) → (let given : Result X Refusal = Ok x in given ≡ Ok y) → x ≡ y
+ok_same x y h = cc
 
 -- ---- the steps of a section
 
--- the first of the three steps of a section that is refused refuses it
-section_steps : {X : Type 0} (o : Option Refusal) (load : Result (Option ℕ) Refusal) (past : Cursors → Option Refusal) (left : Cursors) (give : Cursors → Option ℕ → X)
-    → (unless o left >>= λ to. load >>= λ l. unless (past to) (give to l)) ≡ unless (either_refusal (either_refusal o (load_refusal load)) (past left)) (give left (load_or_none load))
-section_steps None (Ok l) past left give = refl
-section_steps None (Err r) past left give = refl
-section_steps (Some r) load past left give = refl
+given_unless : {X : Type 0} (o : Option Refusal) (x y : X) → unless o x ≡ Ok y → (o ≡ None) × (x ≡ y)
+given_unless None x y h = (refl, ok_same x y h)
+given_unless (Some r) x y h = absurd (cc)
+
+-- where a section is placed, none of its three steps is refused
+steps_given : {X : Type 0} (o : Option Refusal) (load : Result (Option ℕ) Refusal) (past : Cursors → Option Refusal) (left : Cursors) (give : Cursors → Option ℕ → X) (y : X)
+    → (unless o left >>= λ to. load >>= λ l. unless (past to) (give to l)) ≡ Ok y → (o ≡ None) × (load ≡ Ok (load_or_none load)) × (past left ≡ None) × (give left (load_or_none load) ≡ y)
+steps_given None (Ok l) past left give y h = let both = given_unless (past left) (give left l) y h in (refl, refl, both.0, both.1)
+steps_given None (Err r) past left give y h = absurd (cc)
+steps_given (Some r) load past left give y h = absurd (cc)
+
+-- the cursors and the records that a section gives
+abbrev pub section_gives : Setting → PlacedRecords → ℕ → Cursors → Cursors × List Record
+section_gives setting standing s from = (section_left setting s from, loaded_records setting standing s from)
+
+pub record IsSectionGiven (setting : Setting) (standing : PlacedRecords) (s : ℕ) (from : Cursors) (given : Cursors × List Record) : Type 0 where
+  pub fits : section_overflow setting s from ≡ None
+  pub load : load_given setting standing s from ≡ Ok (load_of setting standing s from)
+  pub inside : past_region setting (stands_in setting.plan s) (section_left setting s from).memory ≡ None
+  pub gives : section_gives setting standing s from ≡ given
+
+pub section_given : (setting : Setting) (standing : PlacedRecords) (s : ℕ) (from : Cursors) (given : Cursors × List Record) → placed_by setting standing (Some s) from ≡ Ok given
+    → IsSectionGiven setting standing s from given
+section_given setting standing s from given h =
+    let steps = steps_given (section_overflow setting s from) (load_given setting standing s from) (λ to. past_region setting (stands_in setting.plan s) to.memory) (section_left setting s from)
+    (λ to load. (to, map (loaded_by load) (records_by setting s (section_start setting s from)))) given h in
+    record { fits = steps.0; load = steps.1; inside = steps.2; gives = steps.3 }
+
+-- ---- the steps of an event
 
 -- the records that a section is given, if there is one
 abbrev pub given_records : Setting → PlacedRecords → Option ℕ → Cursors → List Record
 given_records setting standing None from = []
 given_records setting standing (Some s) from = loaded_records setting standing s from
 
-placed_gives : (setting : Setting) (standing : PlacedRecords) (s : Option ℕ) (from : Cursors)
-    → placed_by setting standing s from ≡ unless (section_refusal setting standing s from) (left_behind setting s from, given_records setting standing s from)
+placed_given : (setting : Setting) (standing : PlacedRecords) (s : Option ℕ) (from : Cursors) (given : Cursors × List Record) → placed_by setting standing s from ≡ Ok given
+    → (left_behind setting s from ≡ given.0) × (given_records setting standing s from ≡ given.1)
 unfolding left_behind
-placed_gives setting standing None from = refl
-placed_gives setting standing (Some s) from =
-    section_steps (section_overflow setting s from) (load_given setting standing s from) (λ to. past_region setting (stands_in setting.plan s) to.memory) (section_left setting s from)
-    (λ to load. (to, map (loaded_by load) (records_by setting s (section_start setting s from))))
+placed_given setting standing None from given h =
+    let none : Cursors × List Record = (from, []) in
+    let same : none ≡ given = ok_same none given h in
+    (ap (λ (q : Cursors × List Record). q.0) same, ap (λ (q : Cursors × List Record). q.1) same)
+placed_given setting standing (Some s) from given h =
+    let same = (section_given setting standing s from given h).gives in
+    (ap (λ (q : Cursors × List Record). q.0) same, ap (λ (q : Cursors × List Record). q.1) same)
 
--- ---- the steps of an event
-
-behind_move : (setting : Setting) (standing : PlacedRecords) (s : Option ℕ) (from : Cursors) (r : Result Cursors Refusal)
-    → (r >>= placed_by setting standing s) ≡ unless (refusal_behind_move setting standing s r) (left_behind setting s (after_move from r), given_records setting standing s (after_move from r))
-behind_move setting standing s from (Ok c) = placed_gives setting standing s c
-behind_move setting standing s from (Err r) = refl
+-- what is made of what there is isn't refused where there is something
+bound : {X : Type 0} (from : Cursors) (r : Result Cursors Refusal) (f : Cursors → Result X Refusal) (y : X) → (r >>= f) ≡ Ok y → (r ≡ Ok (after_move from r)) × (f (after_move from r) ≡ Ok y)
+bound from (Ok c) f y h = (refl, h)
+bound from (Err r) f y h = absurd (cc)
 
 -- the records that an event makes of its section's parts
 abbrev pub made_records : Setting → Known → OrderEvent → Cursors → List Record
 made_records setting known e from = given_records setting known.standing (placed_section e) (entered setting known e from)
 
-pub event_gives : (setting : Setting) (known : Known) (e : OrderEvent) (from : Cursors)
-    → carried_out setting known e from ≡ unless (event_refusal setting known e from) (left_by setting known (Some e) from, made_records setting known e from)
-event_gives setting known e from = behind_move setting known.standing (placed_section e) from (moved setting known e from)
+-- what an event gives that isn't refused
+pub record IsGiven (setting : Setting) (known : Known) (e : OrderEvent) (from : Cursors) (given : Cursors × List Record) : Type 0 where
+  pub moves : moved setting known e from ≡ Ok (entered setting known e from)
+  pub places : placed_by setting known.standing (placed_section e) (entered setting known e from) ≡ Ok given
+  pub leaves : left_by setting known (Some e) from ≡ given.0
+  pub makes : made_records setting known e from ≡ given.1
 
--- ---- what is refused, and what isn't
+pub event_given : (setting : Setting) (known : Known) (e : OrderEvent) (from : Cursors) (given : Cursors × List Record) → carried_out setting known e from ≡ Ok given
+    → IsGiven setting known e from given
+event_given setting known e from given h =
+    let steps = bound from (moved setting known e from) (placed_by setting known.standing (placed_section e)) given h in
+    let both = placed_given setting known.standing (placed_section e) (entered setting known e from) given steps.1 in
+    record { moves = steps.0; places = steps.1; leaves = both.0; makes = both.1 }
 
-refused_gives : {X : Type 0} (k : ℕ) (o : Option Refusal) (x : X) → refused k (unless o x) ≡ option_map (numbered k) o
-refused_gives k None x = refl
-refused_gives k (Some r) x = refl
+-- what isn't refused gives something
+something : {X : Type 0} (k : ℕ) (r : Result X Refusal) → refused k r ≡ None → (x : X) × (r ≡ Ok x)
+something k (Ok x) h = (x, refl)
+something k (Err r) h = absurd (cc)
 
-pub first_steps_refuse : FirstStepsRefuse
-first_steps_refuse setting known k e from =
-    ap (refused k) (event_gives setting known e from) ∙ refused_gives k (event_refusal setting known e from) (left_by setting known (Some e) from, made_records setting known e from)
-
-given_unless : {X : Type 0} (o : Option Refusal) (x y : X) → unless o x ≡ Ok y → (o ≡ None) × (x ≡ y)
-given_unless None x y h = (refl, cc)
-given_unless (Some r) x y h = absurd (cc)
-
--- an event that gives these cursors and these records isn't refused
-pub record IsGiven (setting : Setting) (known : Known) (e : OrderEvent) (from to : Cursors) (records : List Record) : Type 0 where
-  pub unrefused : event_refusal setting known e from ≡ None
-  pub leaves : to ≡ left_by setting known (Some e) from
-  pub makes : records ≡ made_records setting known e from
-
-pub event_given : (setting : Setting) (known : Known) (e : OrderEvent) (from to : Cursors) (records : List Record) → carried_out setting known e from ≡ Ok (to, records)
-    → IsGiven setting known e from to records
-event_given setting known e from to records h =
-    let made : Cursors × List Record = (left_by setting known (Some e) from, made_records setting known e from) in
-    let both = given_unless (event_refusal setting known e from) made (to, records) (sym (event_gives setting known e from) ∙ h) in
-    record { unrefused = both.0; leaves = sym (ap (λ (q : Cursors × List Record). q.0) both.1); makes = sym (ap (λ (q : Cursors × List Record). q.1) both.1) }
+-- and that is what the walk computes
+pub event_gives : (setting : Setting) (known : Known) (k : ℕ) (e : OrderEvent) (from : Cursors) → refused k (carried_out setting known e from) ≡ None
+    → carried_out setting known e from ≡ Ok (left_by setting known (Some e) from, made_records setting known e from)
+event_gives setting known k e from none =
+    let there = something k (carried_out setting known e from) none in
+    let given : IsGiven setting known e from there.0 = event_given setting known e from there.0 there.1 in
+    let same : there.0 ≡ (left_by setting known (Some e) from, made_records setting known e from) = λ i. (sym given.leaves i, sym given.makes i) in
+    there.1 ∙ ap (λ (q : Cursors × List Record). Ok q) same

@@ -15,14 +15,14 @@ use Rattle.lk_link.proofs.Numbers.{length-made, made_of_or}
 use Rattle.lk_link.proofs.Places.{found}
 use Rattle.lk_place.specs.declared.cursors.Cursors.{Cursors}
 use Rattle.lk_place.specs.declared.error.Refusal.{Refusal}
-use Rattle.lk_place.specs.Placement.{known_before, state_at, unless}
-use Rattle.lk_place.specs.CarriedOut.{IsPlacedBefore, event_refusal}
+use Rattle.lk_place.specs.Placement.{carried_out, known_before, state_at}
+use Rattle.lk_place.specs.CarriedOut.{IsPlacedBefore}
 use Rattle.lk_place.specs.InRegions.{goes_on_by, places_in, placing_in, span_of}
 use Rattle.lk_place.specs.PlacedBefore.{Known, PlacedRecords, is_placed_before, is_placing, last_before, standing_before}
 use Rattle.lk_expressions.specs.Records.{Record, nowhere, record_at}
 use Rattle.lk_place.specs.Segments.{hull, part_records}
 use Rattle.lk_place.specs.Setting.{IsReady, Setting, part_count, part_number}
-use Rattle.lk_place.specs.Walk.{GoesOn, cursors_after, goes_on_after, known_after, known_in, listed, walk_after, record_after, recorded, records_after, left_by}
+use Rattle.lk_place.specs.Walk.{GoesOn, cursors_after, cursors_of, goes_on_after, known_after, known_in, listed, walk_after, record_after, recorded, records_after, left_by}
 use Rattle.lk_place.proofs.LastOnes.{last_next, numbered_none, take_past}
 use Rattle.lk_place.proofs.PartEvents.{part_placed}
 use Rattle.lk_place.proofs.SectionParts.{part_of, parts_count}
@@ -143,8 +143,8 @@ known_table setting k r g each at goes_on =
 
 -- what carrying out an event gave, by what the walk knows
 pub tried_as : (setting : Setting) (k : ℕ) (e : OrderEvent) (from : Cursors) (end : Result Cursors Refusal) {known : Known} → known ≡ known_after setting k
-    → end ≡ unless (event_refusal setting known e from) (left_by setting known (Some e) from) → end ≡ unless (event_refusal setting (known_after setting k) e from) (left_by setting (known_after setting k) (Some e) from)
-tried_as setting k e from end same gave = gave ∙ ap (λ (x : Known). unless (event_refusal setting x e from) (left_by setting x (Some e) from)) same
+    → end ≡ cursors_of (carried_out setting known e from) → end ≡ cursors_of (carried_out setting (known_after setting k) e from)
+tried_as setting k e from end same gave = gave ∙ ap (λ (x : Known). cursors_of (carried_out setting x e from)) same
 
 pub recorded_as : (setting : Setting) (k : ℕ) (e : OrderEvent) (from : Cursors) (end : Result Cursors Refusal) (old new : ℕ → Record) {known : Known} → known ≡ known_after setting k
     → OnOk end ((p : ℕ) → new p ≡ recorded setting known (Some e) from p (old p)) → OnOk end ((p : ℕ) → new p ≡ recorded setting (known_after setting k) (Some e) from p (old p))

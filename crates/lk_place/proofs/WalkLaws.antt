@@ -1,6 +1,6 @@
 -- The computed walk is the placement that `Placement` defines, and no other is.
 use Rattle.std.proofs.Common.{◌≡◌, ℕ, zero, suc, ◌+◌, ◌-◌, ◌≤◌, ◌<◌, ◌⊎◌, List, [], ◌∷◌, length, Option, Some, None, refl, sym, ap, subst, ◌∙◌, arith, inl, inr, add-one, add-zero, zero-add}
-use Rattle.std.specs.Prelude.{slice_get, option_map, Result, Ok, Err}
+use Rattle.std.specs.Prelude.{slice_get, Result, Ok, Err}
 use Rattle.std.specs.List.{slice_index_or}
 use Rattle.std.proofs.lemmas.Bool.{cases_lt}
 use Rattle.std.proofs.lemmas.List.{ext_get_or, get_or_past}
@@ -13,16 +13,15 @@ use Rattle.lk_link.proofs.Numbers.{length-made, made_at}
 use Rattle.lk_link.proofs.PartNumbers.{parts_end-le}
 use Rattle.lk_place.specs.declared.cursors.Cursors.{Cursors}
 use Rattle.lk_place.specs.declared.error.PlaceError.{PlaceError}
-use Rattle.lk_place.specs.declared.error.Refusal.{Refusal}
-use Rattle.lk_place.specs.Placement.{IsPlaced, carried_out, first_refusal, known_before, numbered, placed_records, placement_refusal, refusal_behind, refusal_of, refused, state_at, unless}
-use Rattle.lk_place.specs.CarriedOut.{IsPlacedBefore, event_refusal}
+use Rattle.lk_place.specs.Placement.{IsPlaced, carried_out, first_refusal, known_before, placed_records, placement_refusal, refusal_behind, refusal_of, refused, state_at}
+use Rattle.lk_place.specs.CarriedOut.{IsPlacedBefore}
 use Rattle.lk_place.specs.PlacementLaws.{PlacementExists, PlacementIsOne}
 use Rattle.lk_place.specs.PlacedBefore.{Known, PlacedRecords, is_placed_before}
 use Rattle.lk_expressions.specs.Records.{Record, nowhere, record_at}
 use Rattle.lk_place.specs.Setting.{IsReady, Setting, part_count, part_number}
 use Rattle.lk_place.specs.Start.{BeginsAt, no_cursors, start}
 use Rattle.lk_place.specs.Walk.{AllPass, cursors_after, entered, first_state, known_after, left_by, records_after, refused_at, record_after}
-use Rattle.lk_place.proofs.EventSteps.{IsGiven, event_given, event_gives, first_steps_refuse, given_records, made_records}
+use Rattle.lk_place.proofs.EventSteps.{IsGiven, event_given, event_gives, given_records, made_records}
 use Rattle.lk_place.proofs.Knowing.{known_is}
 use Rattle.lk_place.proofs.PartEvents.{none_placed, others_are_nowhere}
 use Rattle.lk_place.proofs.SectionParts.{AreWalked, given_walked, loaded_record, walked_given}
@@ -92,10 +91,6 @@ event_made setting standing (SetLocationRelative x t) c records each there made 
 event_made setting standing (SetSectionAddress x) c records each there made = refl
 event_made setting standing (Section s) c records each there made = walked_given setting standing s c records each (there s refl) (made s refl)
 
-unnumbered : (k : ℕ) (o : Option Refusal) → option_map (numbered k) o ≡ None → o ≡ None
-unnumbered k None h = refl
-unnumbered k (Some r) h = absurd (cc)
-
 walk_gives : (setting : Setting) (n : ℕ) (records : List Record) → IsWalk setting n records
     → (k : ℕ) (e : OrderEvent) → k < n → slice_get setting.plan.events k ≡ Some e
     → carried_out setting (known_before setting (states_to setting n) records k) e (state_at (states_to setting n) k) ≡ Ok (state_at (states_to setting n) (k + 1), placed_records setting records e)
@@ -107,7 +102,6 @@ walk_gives setting n records walk k e less here =
     let next : state_at (states_to setting n) (k + 1) ≡ left_by setting known (Some e) from =
     state_is setting n (k + 1) (omega arith) ∙ cursors_next setting k ∙ ap (λ (o : Option OrderEvent). left_by setting known o from) here in
     let unrefused : refusal_of setting known k (Some e) from ≡ None = ap (λ (o : Option OrderEvent). refusal_of setting known k o from) (sym here) ∙ walk.pass k less in
-    let passes : event_refusal setting known e from ≡ None = unnumbered k (event_refusal setting known e from) (sym (first_steps_refuse setting known k e from) ∙ unrefused) in
     let made : placed_records setting records e ≡ made_records setting known e from =
     event_made setting known.standing e (entered setting known e from) records walk.each
     (λ s is. section_there setting k s walk.ready (here ∙ ap (λ (x : OrderEvent). Some x) is))
@@ -118,8 +112,7 @@ walk_gives setting n records walk k e less here =
     ∙ ap (λ (x : OrderEvent). loaded_record setting known.standing s (entered setting known x from) (part_number setting.plan.sections s j)) (sym is)) in
     ap (λ (x : Known). carried_out setting x e (state_at (states_to setting n) k)) (sym same)
     ∙ ap (carried_out setting known e) at
-    ∙ event_gives setting known e from
-    ∙ ap (λ (o : Option Refusal). unless o (left_by setting known (Some e) from, made_records setting known e from)) passes
+    ∙ event_gives setting known k e from unrefused
     ∙ ap (λ (c : Cursors). Ok (c, made_records setting known e from)) (sym next)
     ∙ ap (λ (rs : List Record). Ok (state_at (states_to setting n) (k + 1), rs)) (sym made)
 
@@ -236,9 +229,9 @@ section_as_walked setting states records k s j n ready is more here within early
     let p : ℕ = part_number setting.plan.sections s j in
     let known : Known = known_before setting states records k in
     let from : Cursors = state_at states k in
-    let given : IsGiven setting known e from (state_at states (k + 1)) (placed_records setting records e) =
-    event_given setting known e from (state_at states (k + 1)) (placed_records setting records e) (is.steps k e more here) in
-    given_walked setting known.standing s (entered setting known e from) records (section_there setting k s ready here) given.makes j within
+    let given : IsGiven setting known e from (state_at states (k + 1), placed_records setting records e) =
+    event_given setting known e from (state_at states (k + 1), placed_records setting records e) (is.steps k e more here) in
+    given_walked setting known.standing s (entered setting known e from) records (section_there setting k s ready here) (sym given.makes) j within
     ∙ ap (λ (x : Known). loaded_record setting x.standing s (entered setting x e from) p) same
     ∙ ap (λ (c : Cursors). loaded_record setting (known_after setting k).standing s (entered setting (known_after setting k) e c) p) state
     ∙ sym (record_placed setting k s j n ready here within early)
@@ -263,9 +256,9 @@ next_state setting states records k ready is more before =
     let e : OrderEvent = slice_index_or setting.plan.events k (SegmentEnd 0) in
     let here : slice_get setting.plan.events k ≡ Some e = slice_get-get_or setting.plan.events k (SegmentEnd 0) (omega (arith, is.within)) in
     let same = known_so_far setting k states records before.walked ready is.each before.so_far in
-    let given : IsGiven setting (known_before setting states records k) e (state_at states k) (state_at states (k + 1)) (placed_records setting records e) =
-    event_given setting (known_before setting states records k) e (state_at states k) (state_at states (k + 1)) (placed_records setting records e) (is.steps k e more here) in
-    given.leaves
+    let given : IsGiven setting (known_before setting states records k) e (state_at states k) (state_at states (k + 1), placed_records setting records e) =
+    event_given setting (known_before setting states records k) e (state_at states k) (state_at states (k + 1), placed_records setting records e) (is.steps k e more here) in
+    sym given.leaves
     ∙ ap (λ (x : Known). left_by setting x (Some e) (state_at states k)) same
     ∙ ap (left_by setting (known_after setting k) (Some e)) (before.walked k (omega arith))
     ∙ ap (λ (o : Option OrderEvent). left_by setting (known_after setting k) o (cursors_after setting k)) (sym here)

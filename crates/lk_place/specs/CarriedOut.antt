@@ -1,7 +1,6 @@
--- What a placement promises of each event, by itself: laws of its definition, in which parts start at least multiples and refusals stand step
--- by step. Contracts of private functions speak of the refusals.
+-- What a placement promises of each event, by itself: laws of its definition, in which parts start at least multiples.
 use Rattle.std.specs.Prelude.{◌≡◌, ℕ, zero, suc, ◌+◌, ◌-◌, ◌<◌, Bool, true, false, MatchBool, if◌then◌else◌}
-use Rattle.std.specs.Prelude.{List, length, slice_get, Option, Some, None, Result, Ok, Err, option_map, unwrap_or}
+use Rattle.std.specs.Prelude.{List, length, slice_get, Option, Some, None, Ok, unwrap_or}
 use Rattle.lk_link.specs.declared.plan.OrderEvent.{OrderEvent}
 use Rattle.lk_link.specs.declared.plan.OrderEvent.TheVariants.{Section}
 use Rattle.lk_link.specs.Alignments.{IsLeastMultiple}
@@ -10,12 +9,9 @@ use Rattle.lk_link.specs.Parts.{part_at}
 use Rattle.lk_link.specs.PlanSections.{is_file_backed}
 use Rattle.lk_place.specs.declared.cursors.Cursors.{Cursors}
 use Rattle.lk_place.specs.declared.cursors.Offsets.{Offsets}
-use Rattle.lk_place.specs.declared.error.PlaceError.{PlaceError}
-use Rattle.lk_place.specs.declared.error.Refusal.{Refusal}
 use Rattle.lk_place.specs.InRegions.{past_region, stands_in}
 use Rattle.lk_place.specs.PlacedBefore.{Known, PlacedRecords}
-use Rattle.lk_place.specs.Placement.{IsPlaced, behind, carried_out, first_walked, is_walked, known_before, left_at, load_given, moved, numbered, refused}
-use Rattle.lk_place.specs.Placement.{section_left, section_overflow, section_start, state_at, walk_alignment}
+use Rattle.lk_place.specs.Placement.{IsPlaced, behind, first_walked, is_walked, known_before, left_at, load_given, moved, section_overflow, section_start, state_at, walk_alignment}
 use Rattle.lk_expressions.specs.Records.{Record, nowhere, record_at}
 use Rattle.lk_place.specs.Setting.{IsReady, Setting, part_count, part_number, size_at}
 
@@ -73,12 +69,14 @@ AreLoaded setting s load records = (j : ℕ) → j < part_count setting.plan.sec
     → (record_at records (part_number setting.plan.sections s j)).lma_offset
     ≡ unwrap_or load (record_at records (part_number setting.plan.sections s j)).mem_offset
 
--- a section is placed, and loaded
+-- a section is placed, and loaded; it ends below 2^64, and behind it memory stands inside its region
 pub record PlacesLoaded (setting : Setting) (standing : PlacedRecords) (s : ℕ) (from : Cursors) (records : List Record) (to : Cursors) : Type 0 where
   pub placed : PlacesSection setting s from records to
+  pub fits : section_overflow setting s from ≡ None
   pub load : Option ℕ
   pub given : load_given setting standing s from ≡ Ok load
   pub loaded : AreLoaded setting s load records
+  pub inside : past_region setting (stands_in setting.plan s) to.memory ≡ None
 
 -- an event that places no section leaves the cursors as they are
 abbrev pub Places : Setting → PlacedRecords → Option ℕ → Cursors → List Record → Cursors → Type 0
@@ -93,57 +91,13 @@ pub record CarriesOut (setting : Setting) (known : Known) (e : OrderEvent) (from
   pub moves : moved setting known e from ≡ Ok entered
   pub places : Places setting known.standing (placed_section e) entered records to
 
--- ---- refusals
-
--- the first of two refusals
-abbrev pub either_refusal : Option Refusal → Option Refusal → Option Refusal
-either_refusal None later = later
-either_refusal (Some first) later = Some first
-
--- the refusal of a load address, if it is refused
-abbrev pub load_refusal : Result (Option ℕ) Refusal → Option Refusal
-load_refusal (Ok load) = None
-load_refusal (Err refusal) = Some refusal
-
--- why a section can't be placed from the cursors on, and loaded: its parts end past 2^64 - 1, or its load address has no value
-abbrev pub placing_refusal : Setting → PlacedRecords → ℕ → Cursors → Option Refusal
-placing_refusal setting standing s from = either_refusal (section_overflow setting s from) (load_refusal (load_given setting standing s from))
-
--- why a section is refused: it can't be placed or loaded, or behind it memory stands past its region
-abbrev pub section_refusal : Setting → PlacedRecords → Option ℕ → Cursors → Option Refusal
-section_refusal setting standing None from = None
-section_refusal setting standing (Some s) from =
-    either_refusal (placing_refusal setting standing s from) (past_region setting (stands_in setting.plan s) (section_left setting s from).memory)
-
--- the refusal of a move, else that of the section that is placed behind it
-abbrev pub refusal_behind_move : Setting → PlacedRecords → Option ℕ → Result Cursors Refusal → Option Refusal
-refusal_behind_move setting standing s (Ok entered) = section_refusal setting standing s entered
-refusal_behind_move setting standing s (Err refusal) = Some refusal
-
--- the first refusal of an event's steps
-abbrev pub event_refusal : Setting → Known → OrderEvent → Cursors → Option Refusal
-event_refusal setting known e from = refusal_behind_move setting known.standing (placed_section e) (moved setting known e from)
-
--- the same of event k
-abbrev pub step_refusal : Setting → Known → ℕ → OrderEvent → Cursors → Option PlaceError
-step_refusal setting known k e from = option_map (numbered k) (event_refusal setting known e from)
-
 -- ---- laws
 
--- event k takes the state before it to the next, and isn't refused
-pub record Passes (setting : Setting) (states : List Cursors) (records : List Record) (k : ℕ) (e : OrderEvent) : Type 0 where
-  pub unrefused : step_refusal setting (known_before setting states records k) k e (state_at states k) ≡ None
-  pub steps : CarriesOut setting (known_before setting states records k) e (state_at states k) records (state_at states (k + 1))
-
--- so it is with each event before the last state
-abbrev pub EventsPass : Type 0
-EventsPass = (setting : Setting) (states : List Cursors) (records : List Record) → IsReady setting → IsPlaced setting states records
-    → (k : ℕ) (e : OrderEvent) → k + 1 < length states → slice_get setting.plan.events k ≡ Some e → Passes setting states records k e
-
--- an event is refused by the first of its steps that is
-abbrev pub FirstStepsRefuse : Type 0
-FirstStepsRefuse = (setting : Setting) (known : Known) (k : ℕ) (e : OrderEvent) (from : Cursors)
-    → refused k (carried_out setting known e from) ≡ step_refusal setting known k e from
+-- each event before the last state is carried out so, from the state before it to the next
+abbrev pub EventsAreCarriedOut : Type 0
+EventsAreCarriedOut = (setting : Setting) (states : List Cursors) (records : List Record) → IsReady setting → IsPlaced setting states records
+    → (k : ℕ) (e : OrderEvent) → k + 1 < length states → slice_get setting.plan.events k ≡ Some e
+    → CarriesOut setting (known_before setting states records k) e (state_at states k) records (state_at states (k + 1))
 
 -- a section that one of the first n events places has this part
 pub record IsPlacedBefore (setting : Setting) (n p : ℕ) : Type 0 where

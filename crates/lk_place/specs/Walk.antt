@@ -21,7 +21,8 @@ use Rattle.lk_place.specs.Alignments.{section_alignment, section_alignments, seg
 use Rattle.lk_place.specs.Counters.{told_counter}
 use Rattle.lk_place.specs.InRegions.{named_region, places_in, span_of}
 use Rattle.lk_place.specs.AtHand.{AreAtHand}
-use Rattle.lk_place.specs.Placement.{first_record, first_walked, is_below, load_given, loaded_by, moved, next_record, numbered, overflow_at, record_by, refusal_of, section_left, section_start, unless}
+use Rattle.lk_place.specs.Placement.{first_record, first_walked, is_below, load_given, loaded_by, moved, next_record, numbered, overflow_at, record_by, refusal_of, section_left, section_overflow, section_start, unless}
+use Rattle.lk_expressions.specs.Expressions.{◌>>=◌}
 use Rattle.lk_place.specs.PlacedBefore.{Known, PlacedRecords, last_before, lies_in, standing_before}
 use Rattle.lk_expressions.specs.Records.{Record, nowhere, record_at}
 use Rattle.lk_place.specs.Setting.{IsReady, Setting, part_count, setting_of}
@@ -111,6 +112,10 @@ load_or_none (Err refusal) = None
 abbrev pub load_of : Setting → PlacedRecords → ℕ → Cursors → Option ℕ
 load_of setting standing s from = load_or_none (load_given setting standing s from)
 
+-- the cursors behind a section that is placed from the cursors on, and loaded
+abbrev pub left_loaded : Setting → PlacedRecords → ℕ → Cursors → Result Cursors Refusal
+left_loaded setting standing s from = unless (section_overflow setting s from) (section_left setting s from) >>= λ to. load_given setting standing s from >>= λ load. Ok to
+
 -- what a section makes of it: it is written, and loaded
 unfoldable pub rewritten : Setting → PlacedRecords → Option ℕ → Cursors → ℕ → Record → Record
 rewritten setting standing None from p old = old
@@ -122,6 +127,11 @@ left_behind setting None from = from
 left_behind setting (Some s) from = section_left setting s from
 
 -- ---- one event
+
+-- the cursors that an event gives
+abbrev pub cursors_of : Result (Cursors × List Record) Refusal → Result Cursors Refusal
+cursors_of (Ok given) = Ok given.0
+cursors_of (Err refusal) = Err refusal
 
 -- the cursors after a move, those before it where it is refused
 abbrev pub after_move : Cursors → Result Cursors Refusal → Cursors
