@@ -29,7 +29,8 @@ use Rattle.lk_place.specs.Plain.{IsPlain}
 use Rattle.lk_place_laws.specs.Plans.{IsUnmoved}
 use Rattle.lk_expressions.specs.Records.{Record, mem_end}
 use Rattle.lk_place.specs.Setting.{IsReady, Setting, part_count, takes_addresses}
-use Rattle.lk_place.specs.Start.{BeginsAt, begun_memory, cursors_at, first_cursors, no_cursors, start}
+use Rattle.lk_expressions.specs.Expressions.{◌>>=◌}
+use Rattle.lk_place.specs.Start.{BeginsAt, begun_memory, first_cursors, no_cursors, start}
 use Rattle.lk_place.specs.ThreadLocal.{free_memory}
 use Rattle.lk_place.specs.Walk.{first_state}
 use Rattle.lk_place_laws.proofs.PlaceAlignments.{place_aligned}
@@ -58,7 +59,7 @@ unmoved_plan plan kind may =
 pub plain_plan : (plan : Plan) (kind : OutputKind) → IsPlain plan kind → MovesNothing plan
 plain_plan plan kind plain = record { events = plain.unmoved; free = λ s r h. no_region plan.regions (section_at plan.sections s).region r plain.regions h }
 
-waits_first : (r : Result ℕ PlaceError) (c : Cursors) → cursors_at r ≡ Ok c → c.pending ≡ None
+waits_first : (r : Result ℕ PlaceError) (c : Cursors) → (r >>= λ memory. Ok (first_cursors memory)) ≡ Ok c → c.pending ≡ None
 waits_first (Ok memory) c h = let same : first_cursors memory ≡ c = cc in sym (ap (λ (d : Cursors). d.pending) same)
 waits_first (Err e) c h = absurd (cc)
 
