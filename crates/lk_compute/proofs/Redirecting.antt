@@ -4,6 +4,7 @@ use Rattle.std.specs.Prelude.{option_map}
 use Rattle.std.specs.Result.{IsErrAnd}
 use Rattle.lk_own_symbols.specs.Edges.{Edges, edges_of}
 use Rattle.lk_own_symbols.specs.Redirects.{AllPlaced, redirected, redirects_of}
+use Rattle.lk_expressions.specs.Expressions.{◌>>=◌}
 use Rattle.lk_expressions.specs.Records.{Record}
 use Rattle.lk_link.specs.declared.fault.Limited.TheVariants as limited
 use Rattle.lk_link.specs.declared.file.InputFile.{InputFile}
@@ -20,7 +21,8 @@ use Rattle.lk_place.specs.Placement.{first_refusal, refusal_behind}
 use Rattle.lk_place.specs.Regions.{GivesRegions, given_regions, regions_of}
 use Rattle.lk_place.specs.declared.cursors.Cursors.{Cursors}
 use Rattle.lk_place.specs.Segments.{section_records}
-use Rattle.lk_place.specs.Start.{cursors_at, memory_by}
+use Rattle.lk_place.specs.Base.{first_memory}
+use Rattle.lk_place.specs.Start.{base_by, first_cursors}
 use Rattle.lk_deltas.specs.LinkDeletions.{Deletions}
 use Rattle.lk_relax.specs.Stages.{refusal_of, setting_after}
 use Rattle.lk_layout.specs.declared.error.LayoutError.{LayoutError}
@@ -49,7 +51,7 @@ few_regions link good =
 
 -- where a placement isn't refused, no region is
 no_region_refused : (plan : Plan) (groups : List (List InputFile)) (headers : ℕ) (regions : Result (List (ℕ × ℕ)) PlaceError) (more : Option PlaceError) (e : PlaceError)
-    → first_refusal (cursors_at (memory_by plan groups headers regions)) more ≡ None → Err e ≡ regions → ⊥
+    → first_refusal (regions >>= (λ values. first_memory plan headers (base_by plan groups headers values)) >>= λ memory. Ok (first_cursors memory)) more ≡ None → Err e ≡ regions → ⊥
 no_region_refused plan groups headers (Ok values) more e none is = cc
 no_region_refused plan groups headers (Err x) more e none is = let never : Some x ≡ None = none in cc
 

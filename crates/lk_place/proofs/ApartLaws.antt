@@ -9,10 +9,12 @@ use Rattle.lk_link.specs.Parts.{first_part}
 use Rattle.lk_link.proofs.PartNumbers.{first_part-rises}
 use Rattle.lk_place.specs.declared.cursors.Cursors.{Cursors}
 use Rattle.lk_place.specs.Laws.{FileRangesAreDisjoint}
-use Rattle.lk_place.specs.Placement.{IsPlaced, IsPlacedBefore, state_at}
+use Rattle.lk_place.specs.Placement.{IsPlaced, state_at}
+use Rattle.lk_place.specs.CarriedOut.{IsPlacedBefore}
 use Rattle.lk_place.specs.Ranges.{HasPart}
 use Rattle.lk_expressions.specs.Records.{Record, file_end, nowhere, record_at}
 use Rattle.lk_place.specs.Setting.{Setting, part_count}
+use Rattle.lk_place.proofs.PartEvents.{others_are_nowhere}
 use Rattle.lk_place.proofs.Ranges.{Follow, IsWithin, follow-disjoint, follow-within, rises}
 use Rattle.lk_place.proofs.Steps.{file_follows, file_rises}
 
@@ -89,8 +91,8 @@ pub apart : (begin end : Record → ℕ) (setting : Setting) (states : List Curs
     → (p q o : ℕ) → p ≢ q → ((a : IsPlacedBefore setting (length states - 1) p) → Has a.s) → ((b : IsPlacedBefore setting (length states - 1) q) → Has b.s)
     → IsWithin begin end o (record_at records p) → IsWithin begin end o (record_at records q) → ⊥
 apart begin end setting states records at Has is walked p q o other one two here there =
-    vanishes begin end o (record_at records p) walked.none (is.others p (λ a.
-    vanishes begin end o (record_at records q) walked.none (is.others q (λ b.
+    vanishes begin end o (record_at records p) walked.none (others_are_nowhere setting states records is p (λ a.
+    vanishes begin end o (record_at records q) walked.none (others_are_nowhere setting states records is q (λ b.
     placed_apart begin end setting states records at Has walked p q o other a b (one a) (two b) here there)) there)) here
 
 -- ---- the laws
@@ -98,5 +100,5 @@ apart begin end setting states records at Has is walked p q o other one two here
 pub file_ranges_are_disjoint : FileRangesAreDisjoint
 file_ranges_are_disjoint setting states records ready is p q o other here there =
     apart (λ r. r.file_offset) file_end setting states records (λ k. (state_at states k).file) (λ s. Unit {0}) is
-    (record { none = omega arith; rises = file_rises setting states records is; follows = λ k s less event has. file_follows setting states records is k s less event })
+    (record { none = omega arith; rises = file_rises setting states records ready is; follows = λ k s less event has. file_follows setting states records ready is k s less event })
     p q o other (λ a. tt) (λ b. tt) (here.begins, here.ends) (there.begins, there.ends)

@@ -11,10 +11,10 @@ use Rattle.lk_place.specs.declared.error.PlaceError.{PlaceError}
 use Rattle.lk_place.specs.declared.error.PlaceError.TheVariants.{AddressOverflow, BaseTooLow, Expression, LocationBackwards, NoMemory, OutsideRegion, RegionDuplicate, RegionOverflow, RegionUnknown, SectionOutsideSegments}
 use Rattle.lk_place.specs.declared.start.Beginning.{Beginning}
 use Rattle.lk_place.specs.Base.{first_memory, known_first}
-use Rattle.lk_expressions.specs.Expressions.{Valued, expression_value}
+use Rattle.lk_expressions.specs.Expressions.{Valued, ◌>>=◌, expression_value}
 use Rattle.lk_place.specs.AtHand.{AreAtHand}
 use Rattle.lk_place.specs.Regions.{regions_of}
-use Rattle.lk_place.specs.Start.{GivesBeginning, base_by, begun_memory, constants_by, memory_by}
+use Rattle.lk_place.specs.Start.{GivesBeginning, base_by, begun_memory, constants_by}
 use Rattle.lk_expressions.specs.Surroundings.{early_operand}
 use Rattle.lk_place.proofs.AtHand.{base_spoken, value_at_hand}
 
@@ -40,7 +40,7 @@ pub memory_given : (plan : Plan) (groups : List (List InputFile)) (headers : ℕ
     → begun_memory plan groups headers ≡ r
 memory_given plan groups headers values regions regions' constants constants' r given is made is' same gives =
     let value : List (ℕ × ℕ) → List (Option Valued) → Valued = λ rs cs. expression_value (early_operand (known_first groups headers rs cs)) plan.base in
-    sym (gives ∙ ap (first_memory plan headers) (ap (λ rs. value rs constants') is' ∙ base_at_hand plan groups headers values regions constants constants' is made same) ∙ ap (memory_by plan groups headers) given)
+    sym (gives ∙ ap (first_memory plan headers) (ap (λ rs. value rs constants') is' ∙ base_at_hand plan groups headers values regions constants constants' is made same) ∙ ap (λ (rs : Result (List (ℕ × ℕ)) PlaceError). rs >>= λ regions. first_memory plan headers (base_by plan groups headers regions)) given)
 
 -- the base, by regions and constants, is the value that was found
 pub based : (plan : Plan) (groups : List (List InputFile)) (headers : ℕ) (values regions regions' : List (ℕ × ℕ)) (constants constants' : List (Option Valued)) (r : Valued)

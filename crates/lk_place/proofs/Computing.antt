@@ -19,7 +19,8 @@ use Rattle.lk_expressions.specs.Records.{Record, record_at}
 use Rattle.lk_place.specs.Regions.{given_regions}
 use Rattle.lk_place.specs.Segments.{section_records}
 use Rattle.lk_place.specs.Setting.{IsReady, Setting}
-use Rattle.lk_place.specs.Start.{GivesBeginning, IsBegun, base_by, base_value, cursors_at, first_cursors, start}
+use Rattle.lk_place.specs.Start.{GivesBeginning, IsBegun, base_by, base_value, first_cursors, start}
+use Rattle.lk_expressions.specs.Expressions.{◌>>=◌}
 use Rattle.lk_place.specs.Walk.{AllPass, GivesWalked, StopsBy, counters_after, told_after, cursors_after, first_state, known_after, record_after}
 use Rattle.lk_place.proofs.WalkLaws.{IsWalk, made_walk, records_to, states_to, state_is, unbegun, walk_is_placed, walk_known, walk_refusal}
 use Rattle.lk_place.proofs.WalkSteps.{starts}
@@ -94,6 +95,10 @@ unbegun_refused setting e refused =
       is = unbegun setting e refused;
       refused = ap (λ (r : Result Cursors PlaceError). first_refusal r (refusal_behind setting [] (records_to setting 0))) refused;
     }
+
+-- the cursors before the first event, unless memory doesn't begin
+abbrev cursors_at : Result ℕ PlaceError → Result Cursors PlaceError
+cursors_at r = r >>= λ memory. Ok (first_cursors memory)
 
 -- the refusal that a beginning tells, where it isn't want of memory
 told_begun : (setting : Setting) (x e : PlaceError) → x ≡ e → (x ≡ NoMemory → ⊥) → GivesBeginning setting.plan setting.groups setting.headers (Err e) → start setting ≡ Err x

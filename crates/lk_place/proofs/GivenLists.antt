@@ -2,7 +2,12 @@
 use Rattle.std.proofs.Common.{◌≡◌, ℕ, ◌+◌, List, [], ◌∷◌, ◌++◌, Result, Ok, Err, refl, ap, ◌∙◌}
 use Rattle.std.proofs.lemmas.List.{append-nil}
 use Rattle.lk_place.specs.declared.error.PlaceError.{PlaceError}
-use Rattle.lk_place.specs.Regions.{all_given, with_first}
+use Rattle.lk_expressions.specs.Expressions.{◌>>=◌}
+use Rattle.lk_place.specs.Regions.{all_given}
+
+-- a value before others, unless there is a refusal
+abbrev pub with_first : {X : Type 0} → Result X PlaceError → Result (List X) PlaceError → Result (List X) PlaceError
+with_first r rest = r >>= λ x. rest >>= λ xs. Ok (x ∷ xs)
 
 -- values behind others, unless there is a refusal
 abbrev pub behind : {X : Type 0} → List X → Result (List X) PlaceError → Result (List X) PlaceError

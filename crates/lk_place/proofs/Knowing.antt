@@ -1,30 +1,32 @@
 -- What expressions read of what earlier events place goes by the records of just that.
-use Rattle.std.proofs.Common.{◌≡◌, ℕ, zero, suc, ◌+◌, ◌-◌, ◌≤◌, ◌<◌, Bool, true, false, List, length, take, drop, Option, Some, None, refl, sym, ap, subst, ◌∙◌, arith}
+use Rattle.std.proofs.Common.{◌≡◌, ℕ, zero, suc, ◌+◌, ◌≤◌, ◌<◌, Bool, true, false, List, length, take, Option, Some, None, refl, sym, ap, subst, ◌∙◌, arith}
 use Rattle.std.specs.Prelude.{if◌then◌else◌, slice_get, OnOk, Result}
-use Rattle.std.specs.List.{enumerate_from, filter_map, last_or, list_any, slice_index, slice_index_or}
+use Rattle.std.specs.List.{enumerate_from, filter_map, last_or, list_any, slice_index}
 use Rattle.std.specs.Option.{option_map_or, option_or}
 use Rattle.std.proofs.Math.Path.{fun_ext}
 use Rattle.std.proofs.lemmas.Bool.{eqb-true}
-use Rattle.std.proofs.lemmas.List.{ext_get_or, get_or-drop, get_or-take, length-drop, length-take}
+use Rattle.std.proofs.lemmas.List.{ext_get_or}
 use Rattle.lk_link.specs.declared.plan.OrderEvent.{OrderEvent}
 use Rattle.lk_link.specs.declared.plan.OrderEvent.TheVariants.{SegmentStart, SegmentEnd, Section, SetLocation, SetLocationRelative, SetSectionAddress}
 use Rattle.lk_link.specs.declared.plan.PlanSection.{PlanSection}
-use Rattle.lk_link.specs.Parts.{all_parts, first_part}
+use Rattle.lk_link.specs.Parts.{all_parts}
 use Rattle.lk_link.proofs.InputLemmas.{numbered_get}
 use Rattle.lk_link.proofs.Numbers.{length-made, made_of_or}
-use Rattle.lk_link.proofs.PartNumbers.{first_part-le, first_part-suc}
 use Rattle.lk_link.proofs.Places.{found}
 use Rattle.lk_place.specs.declared.cursors.Cursors.{Cursors}
 use Rattle.lk_place.specs.declared.error.Refusal.{Refusal}
-use Rattle.lk_place.specs.Placement.{IsPlacedBefore, event_refusal, known_before, state_at}
+use Rattle.lk_place.specs.Placement.{carried_out, known_before, state_at}
+use Rattle.lk_place.specs.CarriedOut.{IsPlacedBefore}
 use Rattle.lk_place.specs.InRegions.{goes_on_by, places_in, placing_in, span_of}
-use Rattle.lk_place.specs.PlacedBefore.{Known, PlacedRecords, is_placing, is_placing_part, last_before, lies_in, standing_before}
+use Rattle.lk_place.specs.PlacedBefore.{Known, PlacedRecords, is_placed_before, is_placing, last_before, standing_before}
 use Rattle.lk_expressions.specs.Records.{Record, nowhere, record_at}
 use Rattle.lk_place.specs.Segments.{hull, part_records}
 use Rattle.lk_place.specs.Setting.{IsReady, Setting, part_count, part_number}
-use Rattle.lk_place.specs.Walk.{GoesOn, cursors_after, goes_on_after, known_after, known_in, listed, walk_after, record_after, recorded, records_after, left_by, unless}
+use Rattle.lk_place.specs.Walk.{GoesOn, cursors_after, cursors_of, goes_on_after, known_after, known_in, listed, walk_after, record_after, recorded, records_after, left_by}
 use Rattle.lk_place.proofs.LastOnes.{last_next, numbered_none, take_past}
-use Rattle.lk_place.proofs.WalkRecords.{among_is, section_there}
+use Rattle.lk_place.proofs.PartEvents.{part_placed}
+use Rattle.lk_place.proofs.SectionParts.{part_of, parts_count}
+use Rattle.lk_place.proofs.WalkRecords.{section_there}
 
 -- ---- what is placed before
 
@@ -36,23 +38,6 @@ placing_event (SetLocation x) s h = absurd (cc)
 placing_event (SetLocationRelative x t) s h = absurd (cc)
 placing_event (SetSectionAddress x) s h = absurd (cc)
 
-pub placing_part : (sections : List PlanSection) (e : OrderEvent) (p : ℕ) → is_placing_part sections p e ≡ true
-    → (s : ℕ) × (e ≡ Section s) × (lies_in (first_part sections s) (part_count sections s) p ≡ true)
-placing_part sections (Section t) p h = (t, refl, h)
-placing_part sections (SegmentStart i) p h = absurd (cc)
-placing_part sections (SegmentEnd i) p h = absurd (cc)
-placing_part sections (SetLocation x) p h = absurd (cc)
-placing_part sections (SetLocationRelative x t) p h = absurd (cc)
-placing_part sections (SetSectionAddress x) p h = absurd (cc)
-
--- a part that is known is placed before
-pub part_placed : (setting : Setting) (k p : ℕ) → list_any (is_placing_part setting.plan.sections p) (take k setting.plan.events) ≡ true → IsPlacedBefore setting k p
-part_placed setting k p h =
-    let there = found (is_placing_part setting.plan.sections p) setting.plan.events k h in
-    let at = placing_part setting.plan.sections there.1 p there.4 in
-    let place = among_is (first_part setting.plan.sections at.0) (part_count setting.plan.sections at.0) p at.2 in
-    record { k = there.0; s = at.0; j = place.0; early = there.2; places = there.3 ∙ ap (λ (e : OrderEvent). Some e) at.1; within = place.1; is = place.2 }
-
 -- the parts of a section that is known are
 pub section_placed : (setting : Setting) (k s j : ℕ) → list_any (is_placing s) (take k setting.plan.events) ≡ true → j < part_count setting.plan.sections s
     → IsPlacedBefore setting k (part_number setting.plan.sections s j)
@@ -61,24 +46,6 @@ section_placed setting k s j h within =
     record { k = there.0; s = s; j = j; early = there.2; places = there.3 ∙ ap (λ (e : OrderEvent). Some e) (placing_event there.1 s there.4); within = within; is = refl }
 
 -- ---- the records of a section
-
-pub part_of : (sections : List PlanSection) (records : List Record) (s j : ℕ) → s < length sections → j < part_count sections s
-    → slice_index_or (part_records sections records s) j nowhere ≡ record_at records (part_number sections s j)
-part_of sections records s j below within =
-    let first : ℕ = first_part sections s in
-    get_or-take (first_part sections (s + 1) - first) (drop first records) j nowhere (omega (arith, first_part-suc sections s below)) ∙ get_or-drop first records j nowhere
-
-pub parts_count : (sections : List PlanSection) (records : List Record) (s : ℕ) → length records ≡ length (all_parts sections) → s < length sections
-    → length (part_records sections records s) ≡ part_count sections s
-parts_count sections records s each below =
-    omega (
-      arith,
-      length-take (first_part sections (s + 1) - first_part sections s) (drop (first_part sections s) records),
-      length-drop (first_part sections s) records,
-      first_part-suc sections s below,
-      first_part-le sections (s + 1),
-      each,
-    )
 
 parts_alike : (sections : List PlanSection) (r r' : List Record) (s : ℕ) → length r ≡ length (all_parts sections) → length r' ≡ length (all_parts sections) → s < length sections
     → ((j : ℕ) → j < part_count sections s → record_at r (part_number sections s j) ≡ record_at r' (part_number sections s j))
@@ -97,7 +64,7 @@ pub standing_alike : (setting : Setting) (k : ℕ) (r r' : List Record) → IsRe
 standing_alike setting k r r' ready each each' alike =
     let sections : List PlanSection = setting.plan.sections in
     let section : List Record → ℕ → Option Record = λ rs s. if list_any (is_placing s) (take k setting.plan.events) then Some (hull (part_records sections rs s)) else None in
-    let part : List Record → ℕ → Option Record = λ rs p. if list_any (is_placing_part sections p) (take k setting.plan.events) then Some (record_at rs p) else None in
+    let part : List Record → ℕ → Option Record = λ rs p. if is_placed_before setting.plan k p then Some (record_at rs p) else None in
     let same_section : section r ≡ section r' = fun_ext (λ s.
     elim (list_any (is_placing s) (take k setting.plan.events)) as (λ b. list_any (is_placing s) (take k setting.plan.events) ≡ b
     → (if b then Some (hull (part_records sections r s)) else None) ≡ (if b then Some (hull (part_records sections r' s)) else None)) [
@@ -108,7 +75,7 @@ standing_alike setting k r r' ready each each' alike =
       | false ↦ λ is. refl
     ] refl) in
     let same_part : part r ≡ part r' = fun_ext (λ p.
-    elim (list_any (is_placing_part sections p) (take k setting.plan.events)) as (λ b. list_any (is_placing_part sections p) (take k setting.plan.events) ≡ b
+    elim (is_placed_before setting.plan k p) as (λ b. is_placed_before setting.plan k p ≡ b
     → (if b then Some (record_at r p) else None) ≡ (if b then Some (record_at r' p) else None)) [
       | true ↦ λ is. ap (λ (x : Record). Some x) (alike p (part_placed setting k p is))
       | false ↦ λ is. refl
@@ -176,8 +143,8 @@ known_table setting k r g each at goes_on =
 
 -- what carrying out an event gave, by what the walk knows
 pub tried_as : (setting : Setting) (k : ℕ) (e : OrderEvent) (from : Cursors) (end : Result Cursors Refusal) {known : Known} → known ≡ known_after setting k
-    → end ≡ unless (event_refusal setting known e from) (left_by setting known (Some e) from) → end ≡ unless (event_refusal setting (known_after setting k) e from) (left_by setting (known_after setting k) (Some e) from)
-tried_as setting k e from end same gave = gave ∙ ap (λ (x : Known). unless (event_refusal setting x e from) (left_by setting x (Some e) from)) same
+    → end ≡ cursors_of (carried_out setting known e from) → end ≡ cursors_of (carried_out setting (known_after setting k) e from)
+tried_as setting k e from end same gave = gave ∙ ap (λ (x : Known). cursors_of (carried_out setting x e from)) same
 
 pub recorded_as : (setting : Setting) (k : ℕ) (e : OrderEvent) (from : Cursors) (end : Result Cursors Refusal) (old new : ℕ → Record) {known : Known} → known ≡ known_after setting k
     → OnOk end ((p : ℕ) → new p ≡ recorded setting known (Some e) from p (old p)) → OnOk end ((p : ℕ) → new p ≡ recorded setting (known_after setting k) (Some e) from p (old p))

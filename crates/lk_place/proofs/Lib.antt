@@ -4,6 +4,7 @@ mod AtHand
 mod Beginnings
 pub mod Checked
 mod Computing
+mod EventSteps
 mod GivenLists
 mod HullLaws
 pub mod Insides
@@ -14,6 +15,8 @@ pub mod MassLaws
 pub mod Moves
 pub mod Multiples
 pub mod OpenSegments
+pub mod PartEvents
+pub mod Passing
 pub mod PlacedParts
 pub mod PlacedSections
 mod PlacedTables
@@ -23,6 +26,7 @@ mod RegionLaws
 mod RegionNames
 mod SecondaryLaws
 pub mod SectionEnds
+mod SectionParts
 mod SectionRegions
 mod SegmentAlignments
 mod SegmentFiles

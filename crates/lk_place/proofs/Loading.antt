@@ -1,6 +1,6 @@
 -- What stands behind a section that is placed: it and its parts, and what stood before it.
 use Rattle.std.proofs.Common.{◌≡◌, ℕ, zero, suc, ◌+◌, ◌<◌, Bool, true, false, cond, List, [], ◌∷◌, length, take, Option, Some, None, refl, sym, ap, ◌∙◌, arith, add-one}
-use Rattle.std.specs.Prelude.{◌==◌, ◌||◌, slice_get, Result, Ok, Err, IsErrAnd}
+use Rattle.std.specs.Prelude.{◌==◌, ◌||◌, map, slice_get, Result, Ok, Err, IsErrAnd}
 use Rattle.std.specs.List.{list_any}
 use Rattle.std.proofs.Math.Path.{fun_ext}
 use Rattle.std.proofs.lemmas.Bool.{eqb-true}
@@ -18,13 +18,17 @@ use Rattle.lk_place.specs.declared.cursors.Offsets.{Offsets}
 use Rattle.lk_place.specs.declared.error.Refusal.{Refusal}
 use Rattle.lk_place.specs.InRegions.{past_region, stands_in}
 use Rattle.lk_place.specs.PlacedBefore.{PlacedRecords, is_placing, is_placing_part, lies_in, standing_before}
-use Rattle.lk_place.specs.Placement.{IsPlacedBefore, either_refusal, load_by, load_given, load_refusal, placing_refusal, record_by, records_by, section_left, section_refusal, section_start, standing_with}
+use Rattle.lk_place.specs.Placement.{load_by, load_given, loaded_by, placed_by, record_by, records_by, section_left, section_overflow, section_start, standing_with, unless}
+use Rattle.lk_place.specs.CarriedOut.{IsPlacedBefore}
+use Rattle.lk_expressions.specs.Expressions.{◌>>=◌}
 use Rattle.lk_expressions.specs.Records.{Record, nowhere, record_at}
 use Rattle.lk_place.specs.Segments.{hull, part_records}
 use Rattle.lk_place.specs.Setting.{IsReady, Setting, part_count, part_number}
-use Rattle.lk_place.specs.Walk.{Rewrites, all_loaded, all_written, left_behind, load_or_none, rewritten, unless}
-use Rattle.lk_place.proofs.Knowing.{part_of, parts_count, standing_alike}
-use Rattle.lk_place.proofs.WalkRecords.{PlacesAt, among_other, among_part, section_there}
+use Rattle.lk_place.specs.Walk.{Rewrites, all_loaded, all_written, cursors_of, left_loaded, load_or_none, rewritten}
+use Rattle.lk_place.proofs.Knowing.{standing_alike}
+use Rattle.lk_place.proofs.SectionParts.{part_of, parts_count}
+use Rattle.lk_place.proofs.WalkRecords.{PlacesAt, among_other, section_there}
+use Rattle.lk_place.proofs.PartEvents.{among_part}
 
 -- ---- one element more
 
@@ -122,16 +126,9 @@ pub placed_is : (o : Option Refusal) (x left : Cursors) → Ok x ≡ unless o le
 placed_is None x left h = (refl, cc)
 placed_is (Some r) x left h = absurd (cc)
 
--- one whose parts are refused is refused
-pub parts_refused : (o : Option Refusal) (load : Result (Option ℕ) Refusal) (r : Result Cursors Refusal) (e : Refusal) (left : Cursors) → Err e ≡ unless o left → IsErrAnd r (λ x. x ≡ e)
-    → r ≡ unless (either_refusal o (load_refusal load)) left
-parts_refused None load r e left h told = absurd (cc)
-parts_refused (Some x) load (Ok c) e left h told = absurd told
-parts_refused (Some x) load (Err y) e left h told = let same : e ≡ x = cc in ap (λ (z : Refusal). Err z) (told ∙ same)
-
 -- one whose load address has no value is refused
 pub loads_refused : (o : Option Refusal) (load : Result (Option ℕ) Refusal) (r : Result Cursors Refusal) (e : Refusal) (left : Cursors) → o ≡ None → Err e ≡ load → IsErrAnd r (λ x. x ≡ e)
-    → r ≡ unless (either_refusal o (load_refusal load)) left
+    → r ≡ (unless o left >>= λ to. load >>= λ l. Ok to)
 loads_refused (Some x) load r e left none h told = absurd (cc)
 loads_refused None (Ok l) r e left none h told = absurd (cc)
 loads_refused None (Err x) (Ok c) e left none h told = absurd told
@@ -139,7 +136,7 @@ loads_refused None (Err x) (Err y) e left none h told = let same : e ≡ x = cc 
 
 -- and no other
 pub loads_passed : (o : Option Refusal) (load : Result (Option ℕ) Refusal) (l : Option ℕ) (c left : Cursors) → o ≡ None → Ok l ≡ load → c ≡ left
-    → Ok c ≡ unless (either_refusal o (load_refusal load)) left
+    → Ok c ≡ (unless o left >>= λ to. load >>= λ m. Ok to)
 loads_passed (Some x) load l c left none h is = absurd (cc)
 loads_passed None (Err x) l c left none h is = absurd (cc)
 loads_passed None (Ok m) l c left none h is = ap (λ (d : Cursors). Ok d) is
@@ -154,12 +151,20 @@ loads_written setting standing s from load old mid new given writes loads p =
     ∙ ap (λ (l : Option ℕ). all_loaded setting s l p (all_written setting s (section_start setting s from) p (record_at old p))) (ap load_or_none given)
 
 -- then its region refuses it, or goes on behind it
-pub region_left : (setting : Setting) (standing : PlacedRecords) (s : ℕ) (from x : Cursors) (r : Result Cursors Refusal) → Ok x ≡ unless (placing_refusal setting standing s from) (section_left setting s from)
-    → r ≡ unless (past_region setting (stands_in setting.plan s) x.memory) x → r ≡ unless (section_refusal setting standing (Some s) from) (left_behind setting (Some s) from)
-unfolding left_behind
+unless_left : (o : Option Refusal) (to : Cursors) (rs : List Record) → unless o to ≡ cursors_of (unless o (to, rs))
+unless_left None to rs = refl
+unless_left (Some r) to rs = refl
+
+then_left : (o : Option Refusal) (load : Result (Option ℕ) Refusal) (past : Cursors → Option Refusal) (left x : Cursors) (made : Option ℕ → List Record) → Ok x ≡ (unless o left >>= λ to. load >>= λ l. Ok to)
+    → unless (past x) x ≡ cursors_of (unless o left >>= λ (to : Cursors). load >>= λ (l : Option ℕ). let given : Cursors × List Record = (to, made l) in unless (past to) given)
+then_left None (Ok l) past left x made h =
+    let same : x ≡ left = cc in
+    ap (λ (c : Cursors). unless (past c) c) same ∙ unless_left (past left) left (made l)
+then_left None (Err r) past left x made h = absurd (cc)
+then_left (Some r) load past left x made h = absurd (cc)
+
+pub region_left : (setting : Setting) (standing : PlacedRecords) (s : ℕ) (from x : Cursors) (r : Result Cursors Refusal) → Ok x ≡ left_loaded setting standing s from
+    → r ≡ unless (past_region setting (stands_in setting.plan s) x.memory) x → r ≡ cursors_of (placed_by setting standing (Some s) from)
 region_left setting standing s from x r placed left =
-    let end : Cursors = section_left setting s from in
-    let both = placed_is (placing_refusal setting standing s from) x end placed in
-    left
-    ∙ ap (λ (c : Cursors). unless (past_region setting (stands_in setting.plan s) c.memory) c) both.1
-    ∙ ap (λ (o : Option Refusal). unless (either_refusal o (past_region setting (stands_in setting.plan s) end.memory)) end) (sym both.0)
+    left ∙ then_left (section_overflow setting s from) (load_given setting standing s from) (λ to. past_region setting (stands_in setting.plan s) to.memory) (section_left setting s from) x
+    (λ load. map (loaded_by load) (records_by setting s (section_start setting s from))) placed

@@ -1,6 +1,6 @@
 -- Facts on the parts that a walk places.
-use Rattle.std.proofs.Common.{cond, refl, add-zero, ◌≡◌, ℕ, suc, ◌-◌, ◌<◌, true, List, [], ◌∷◌, length, arith, inl, inr, sym, subst, length-append}
-use Rattle.std.specs.Prelude.{All, ◌^◌, Bool, false, Ok, Err, Some, None}
+use Rattle.std.proofs.Common.{cond, refl, ◌≡◌, ℕ, suc, ◌-◌, ◌<◌, true, List, [], ◌∷◌, length, arith, inl, inr, sym, subst, length-append}
+use Rattle.std.specs.Prelude.{All, ◌^◌, false, Ok, Err, Some, None}
 use Rattle.std.specs.List.{slice_index_or}
 use Rattle.std.proofs.Math.Seq.{get_or-append_right}
 use Rattle.std.proofs.lemmas.Bool.{cases_lt}
@@ -14,8 +14,7 @@ use Rattle.lk_link.specs.PlanSections.{section_at}
 use Rattle.lk_place.proofs.Checked.{parts_aligned}
 use Rattle.lk_place.specs.declared.cursors.Offsets.{Offsets}
 use Rattle.lk_place.specs.declared.error.Refusal.TheVariants.{Overflow}
-use Rattle.lk_place.specs.Placement.{behind, is_below, overflow_at, placed_at, pushed}
-use Rattle.lk_place.specs.Walk.{unless}
+use Rattle.lk_place.specs.Placement.{is_below, overflow_at, unless}
 use Rattle.lk_place.specs.Setting.{IsReady, Setting}
 
 abbrev AreAligned : List PlanPart → Type 0
@@ -38,15 +37,6 @@ part_aligned setting p d ready below = all_aligned setting.plan.sections (λ s. 
 
 -- ---- cursors below 2^64
 
-cursors_same : (c d : Offsets) → c.file ≡ d.file → c.memory ≡ d.memory → c ≡ d
-cursors_same c d p q = λ i. record { file = p i; memory = q i }
-
--- the cursors behind a placed part
-pub behind_placed : (backed : Bool) (a size : ℕ) (c : Offsets) → behind (placed_at backed a size c) ≡ pushed backed a size c
-unfolding placed_at
-behind_placed true a size c = refl
-behind_placed false a size c = cursors_same _ _ (add-zero c.file) refl
-
 -- cursors in 64 bits are below
 pub below_64 : (c : Offsets) → c.file < 2 ^ 64 → c.memory < 2 ^ 64 → is_below c ≡ true
 below_64 c h g = grind (arith, nat_tests)
@@ -60,4 +50,4 @@ pub unless_past : (c : Offsets) → (is_below c ≡ true → ⊥) → unless (ov
 unless_past c h =
     elim (is_below c) as (λ b. (b ≡ true → ⊥) → unless (cond b None (Some Overflow)) c ≡ Err Overflow) [ true ↦ λ no. absurd (no refl) | false ↦ λ no. refl ] h
 
-pub ruleset next_parts = (behind_placed, below_64, unless_below, unless_past)
+pub ruleset next_parts = (below_64, unless_below, unless_past)

@@ -9,13 +9,12 @@ use Rattle.lk_link.proofs.Powers.{alignment-pos}
 use Rattle.lk_link.proofs.Starts.{next_multiple_is_least}
 use Rattle.lk_place.specs.declared.cursors.Cursors.{Cursors}
 use Rattle.lk_place.specs.declared.cursors.Offsets.{Offsets}
-use Rattle.lk_place.specs.Placement.{IsPlacedAt, IsRestingAt, PlacesSection, behind, end_behind, first_record, first_walked, is_walked, left_at, placed_at, pushed, reached, record_by, resting, section_start, walk_alignment}
+use Rattle.lk_place.specs.Placement.{behind, end_behind, first_record, first_walked, is_walked, left_at, loaded_by, placed_at, record_by, resting, section_start, walk_alignment, walked_from}
+use Rattle.lk_place.specs.CarriedOut.{IsPlacedAt, IsRestingAt, PlacesSection, reached}
 use Rattle.lk_expressions.specs.Records.{Record, record_at}
 use Rattle.lk_place.specs.Setting.{IsReady, Setting, part_count, part_number, size_at}
-use Rattle.lk_place.specs.Walk.{loaded_by}
 use Rattle.lk_place.proofs.WalkedAlignments.{walk_aligned}
 use Rattle.lk_place.proofs.Multiples.{least_one}
-use Rattle.lk_place.proofs.PlacedParts.{behind_placed}
 use Rattle.lk_place.proofs.SectionEnds.{IsFirstWalked, first_alignment, first_is_walked, first_walked_place, none_before}
 
 -- ---- one part
@@ -73,9 +72,7 @@ place_of first j = omega arith
 
 -- the record of a walked part, by its place
 abbrev pub walked_record : Setting → ℕ → Offsets → ℕ → Record
-walked_record setting s begin j =
-    let p = part_number setting.plan.sections s j in
-    placed_at (is_file_backed setting.plan s) (walk_alignment setting s p) (size_at setting.sizes p) (end_behind setting s begin j)
+walked_record setting s begin j = walked_from setting s (part_number setting.plan.sections s j) (end_behind setting s begin j)
 
 pub by_walked : (setting : Setting) (s : ℕ) (begin : Offsets) (j : ℕ) → is_walked setting s (part_number setting.plan.sections s j) ≡ true
     → record_by setting s begin (part_number setting.plan.sections s j) ≡ walked_record setting s begin j
@@ -115,16 +112,14 @@ reached_is : (setting : Setting) (s : ℕ) (begin : Offsets) (records : List Rec
 reached_is setting s begin records zero made = refl
 reached_is setting s begin records (suc j) made =
     let p : ℕ = part_number setting.plan.sections s j in
-    let backed : Bool = is_file_backed setting.plan s in
     let before : Offsets = reached setting s records begin j in
     let computed : Offsets = end_behind setting s begin j in
-    let next : Offsets = pushed backed (walk_alignment setting s p) (size_at setting.sizes p) computed in
+    let next : Offsets = behind (walked_from setting s p computed) in
     let so_far : before ≡ computed = reached_is setting s begin records j (λ i less walked. made i (omega arith) walked) in
     elim (cases_Bool (is_walked setting s p)) [
       | inl walked ↦
           ap (λ (b : Bool). cond b (behind (record_at records p)) before) walked
           ∙ ap behind (made j (omega arith) walked)
-          ∙ behind_placed backed (walk_alignment setting s p) (size_at setting.sizes p) computed
           ∙ ap (λ (b : Bool). cond b next computed) (sym walked)
       | inr rests ↦
           ap (λ (b : Bool). cond b (behind (record_at records p)) before) rests
@@ -211,16 +206,7 @@ loaded_there setting s begin p =
     let rest : Record = resting (first_record setting s begin) (part_at setting.plan.sections p).alignment in
     elim (is_walked setting s p) as (λ b. unloaded (cond b placed rest) ≡ cond b placed rest) [ true ↦ refl | false ↦ refl ]
 
--- a record that is loaded from an address is the one without, loaded from it
-pub loaded_is : (load : Option ℕ) (r x : Record) → unloaded r ≡ x → r.lma_offset ≡ unwrap_or load r.mem_offset → r ≡ loaded_by load x
-loaded_is None r x is at =
-    let same : r ≡ unloaded r = λ i. record r { lma_offset = at i } in
-    same ∙ is
-loaded_is (Some address) r x is at =
-    let same : r ≡ record r { lma_offset = address } = λ i. record r { lma_offset = at i } in
-    same ∙ ap (loaded_by (Some address)) is
-
--- and the other way
+-- a record that is loaded from an address is, but for that, the one without
 pub unloaded_is : (load : Option ℕ) (r x : Record) → unloaded x ≡ x → r ≡ loaded_by load x → unloaded r ≡ x
 unloaded_is None r x there is = ap unloaded is ∙ there
 unloaded_is (Some address) r x there is = ap unloaded is ∙ there

@@ -32,10 +32,11 @@ use Rattle.lk_expressions.specs.Surroundings.{Early, early_operand}
 use Rattle.lk_place.specs.Tables.{ArePlacedAt, is_before, part_before, section_before}
 use Rattle.lk_place.proofs.Checked.{has_part}
 use Rattle.lk_place.proofs.ApartLaws.{section_one}
-use Rattle.lk_place.proofs.Knowing.{part_placed, placing_event, placing_part}
+use Rattle.lk_place.proofs.Knowing.{placing_event}
 use Rattle.lk_place.proofs.MassLaws.{part_place}
 use Rattle.lk_place.proofs.AtHand.{value_at_hand}
-use Rattle.lk_place.proofs.WalkRecords.{among_is, among_part, placed_below, section_there}
+use Rattle.lk_place.proofs.WalkRecords.{placed_below, section_there}
+use Rattle.lk_place.proofs.PartEvents.{among_is, among_part, part_placed, placing_part}
 
 -- ---- what an entry tells
 

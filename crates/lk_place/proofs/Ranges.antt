@@ -7,7 +7,8 @@ use Rattle.lk_link.specs.Parts.{first_part, part_at}
 use Rattle.lk_link.specs.PlanSections.{is_file_backed}
 use Rattle.lk_place.specs.declared.cursors.Cursors.{Cursors}
 use Rattle.lk_place.specs.declared.cursors.Offsets.{Offsets}
-use Rattle.lk_place.specs.Placement.{IsPlacedAt, IsRestingAt, PlacesSection, behind, first_walked, is_walked, reached, section_start, walk_alignment}
+use Rattle.lk_place.specs.Placement.{behind, first_walked, is_walked, section_start, walk_alignment}
+use Rattle.lk_place.specs.CarriedOut.{IsPlacedAt, IsRestingAt, PlacesSection, reached}
 use Rattle.lk_expressions.specs.Records.{Record, file_end, mem_end, nowhere, record_at}
 use Rattle.lk_place.specs.Setting.{Setting, part_count, part_number, size_at}
 

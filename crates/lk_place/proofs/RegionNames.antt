@@ -13,7 +13,8 @@ use Rattle.lk_link.proofs.Places.{among}
 use Rattle.lk_place.specs.declared.error.PlaceError.{PlaceError}
 use Rattle.lk_place.specs.declared.error.PlaceError.TheVariants.{RegionDuplicate}
 use Rattle.lk_place.specs.RegionNames.{HaveOwnNames, is_named}
-use Rattle.lk_place.specs.Regions.{all_given, is_declared, region_of, region_value, regions_of, valued_region, with_first}
+use Rattle.lk_place.specs.Regions.{all_given, is_declared, region_of, region_value, regions_of, valued_region}
+use Rattle.lk_place.proofs.GivenLists.{with_first}
 
 -- what passes, and before it nothing, is the first that passes
 first_at : {X : Type 0} (p : X → Bool) (xs : List X) (k : ℕ) (x : X) → slice_get xs k ≡ Some x → p x ≡ true → list_any p (take k xs) ≡ false → position p xs ≡ Some k

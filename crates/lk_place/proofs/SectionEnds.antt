@@ -12,12 +12,11 @@ use Rattle.lk_place.specs.declared.cursors.Offsets.{Offsets}
 use Rattle.lk_place.specs.declared.error.Refusal.{Refusal}
 use Rattle.lk_place.specs.declared.error.Refusal.TheVariants.{Overflow}
 use Rattle.lk_place.specs.Alignments.{section_alignment}
-use Rattle.lk_place.specs.Placement.{behind, end_behind, first_record, first_walked, is_below, is_walked, next_end, next_record, overflow_at, pushed, record_by, walk_alignment}
+use Rattle.lk_place.specs.Placement.{behind, end_behind, first_record, first_walked, is_below, is_walked, next_end, next_record, overflow_at, placed_at, record_by, unless, walk_alignment, walked_from}
 use Rattle.lk_expressions.specs.Records.{Record}
 use Rattle.lk_place.specs.Setting.{IsReady, Setting, has_bytes, of_parts, part_count, part_number, size_at}
-use Rattle.lk_place.specs.Walk.{unless}
 use Rattle.lk_place.proofs.Checked.{has_part}
-use Rattle.lk_place.proofs.PlacedParts.{behind_placed, unless_below, unless_past}
+use Rattle.lk_place.proofs.PlacedParts.{unless_below, unless_past}
 
 -- neither cursor is past the other's
 pub record AreBelow (c d : Offsets) : Type 0 where
@@ -30,16 +29,17 @@ same_below c = record { file = omega arith; memory = omega arith }
 both_below : (c d e : Offsets) → AreBelow c d → AreBelow d e → AreBelow c e
 both_below c d e h g = record { file = omega (arith, h.file, g.file); memory = omega (arith, h.memory, g.memory) }
 
-pushed_above : (backed : Bool) (a size : ℕ) (c : Offsets) → AreBelow c (pushed backed a size c)
-pushed_above true a size c = record { file = omega arith; memory = omega arith }
-pushed_above false a size c = record { file = omega arith; memory = omega arith }
+placed_above : (backed : Bool) (a size : ℕ) (c : Offsets) → AreBelow c (behind (placed_at backed a size c))
+unfolding placed_at
+placed_above true a size c = record { file = omega arith; memory = omega arith }
+placed_above false a size c = record { file = omega arith; memory = omega arith }
 
 -- a part leaves the cursors at or above those before it
 pub next_above : (setting : Setting) (s p : ℕ) (c : Offsets) → AreBelow c (next_end setting s p c)
 next_above setting s p c =
-    let next : Offsets = pushed (is_file_backed setting.plan s) (walk_alignment setting s p) (size_at setting.sizes p) c in
+    let next : Offsets = behind (walked_from setting s p c) in
     elim (is_walked setting s p) as (λ b. AreBelow c (cond b next c)) [
-      | true ↦ pushed_above (is_file_backed setting.plan s) (walk_alignment setting s p) (size_at setting.sizes p) c
+      | true ↦ placed_above (is_file_backed setting.plan s) (walk_alignment setting s p) (size_at setting.sizes p) c
       | false ↦ same_below c
     ]
 
@@ -163,19 +163,19 @@ none_before setting s i begin zero walked h = refl
 none_before setting s i begin (suc j) walked h =
     let p : ℕ = part_number setting.plan.sections s j in
     let before : Offsets = end_behind setting s begin j in
-    ap (λ (b : Bool). cond b (pushed (is_file_backed setting.plan s) (walk_alignment setting s p) (size_at setting.sizes p) before) before) (not_walked setting s i j walked (omega arith))
+    ap (λ (b : Bool). cond b (behind (walked_from setting s p before)) before) (not_walked setting s i j walked (omega arith))
     ∙ none_before setting s i begin j walked (omega arith)
 
--- behind it they are pushed once
+-- behind it they are behind its record
 pub first_end : (setting : Setting) (s i : ℕ) (begin : Offsets) → IsFirstWalked setting s i
-    → end_behind setting s begin (suc i) ≡ pushed (is_file_backed setting.plan s) (section_alignment setting s) (size_at setting.sizes (first_walked setting s)) begin
+    → end_behind setting s begin (suc i) ≡ behind (first_record setting s begin)
 first_end setting s i begin walked =
     let first : ℕ = first_walked setting s in
     let backed : Bool = is_file_backed setting.plan s in
     ap (next_end setting s (part_number setting.plan.sections s i)) (none_before setting s i begin i walked (omega arith))
     ∙ ap (λ (p : ℕ). next_end setting s p begin) (sym walked.is)
-    ∙ ap (λ (b : Bool). cond b (pushed backed (walk_alignment setting s first) (size_at setting.sizes first) begin) begin) (first_is_walked setting s)
-    ∙ ap (λ (a : ℕ). pushed backed a (size_at setting.sizes first) begin) (first_alignment setting s)
+    ∙ ap (λ (b : Bool). cond b (behind (walked_from setting s first begin)) begin) (first_is_walked setting s)
+    ∙ ap (λ (a : ℕ). behind (placed_at backed a (size_at setting.sizes first) begin)) (first_alignment setting s)
 
 -- ---- the walk over the parts
 
@@ -255,8 +255,7 @@ first_refused setting s begin first r ready below at refused =
     let i : ℕ = place.0 in
     let walked : IsFirstWalked setting s i = place.1 in
     let same : end_behind setting s begin (suc i) ≡ behind first =
-    first_end setting s i begin walked ∙ sym (behind_placed (is_file_backed setting.plan s) (section_alignment setting s) (size_at setting.sizes (first_walked setting s)) begin)
-    ∙ ap behind (sym at) in
+    first_end setting s i begin walked ∙ ap behind (sym at) in
     let past : unless (overflow_at (end_behind setting s begin (suc i))) (end_behind setting s begin (suc i)) ≡ Err Overflow =
     unless_past (end_behind setting s begin (suc i)) (λ fits. refused_past (behind first) first r refused (ap is_below (sym same) ∙ fits)) in
     ap (λ (x : Refusal). Err x) (refusal_one (behind first) first r refused) ∙ sym (stays_past setting s begin (suc i) (part_count setting.plan.sections s) (omega (arith, walked.within)) past)

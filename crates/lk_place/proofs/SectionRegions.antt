@@ -15,7 +15,8 @@ use Rattle.lk_place.specs.declared.regions.SectionRegion.{SectionRegion}
 use Rattle.lk_place.specs.declared.regions.SectionRegion.TheVariants.{Free}
 use Rattle.lk_place.specs.declared.error.PlaceError.{PlaceError}
 use Rattle.lk_place.specs.InRegions.{IsAmong, named_region, numbered_region, span_of, stands_in}
-use Rattle.lk_place.specs.Regions.{all_given, given_regions, region_of, regions_of, with_first}
+use Rattle.lk_place.specs.Regions.{all_given, given_regions, region_of, regions_of}
+use Rattle.lk_place.proofs.GivenLists.{with_first}
 use Rattle.lk_place.specs.Setting.{Setting}
 
 read_mapped : (regions : List Region) (sections : List PlanSection) (s : ℕ)

@@ -10,10 +10,12 @@ use Rattle.lk_link.specs.Parts.{first_part}
 use Rattle.lk_place.specs.declared.cursors.Cursors.{Cursors}
 use Rattle.lk_place.specs.declared.cursors.Offsets.{Offsets}
 use Rattle.lk_place.specs.PlacedBefore.{PlacedRecords}
-use Rattle.lk_place.specs.Placement.{IsPlaced, known_before, Places, PlacesSection, CarriesOut, reached, section_start, state_at}
+use Rattle.lk_place.specs.Placement.{IsPlaced, known_before, section_start, state_at}
+use Rattle.lk_place.specs.CarriedOut.{Places, PlacesSection, CarriesOut, reached}
 use Rattle.lk_expressions.specs.Records.{Record, file_end}
-use Rattle.lk_place.specs.Setting.{Setting, part_count}
+use Rattle.lk_place.specs.Setting.{IsReady, Setting, part_count}
 use Rattle.lk_place.proofs.Moves.{file_grows}
+use Rattle.lk_place.proofs.Passing.{events_are_carried_out}
 use Rattle.lk_place.proofs.Ranges.{Follow, file_ranges, rises, section_follows}
 
 -- what follows from low to high follows from lower to higher
@@ -31,9 +33,9 @@ pub event_at : (setting : Setting) (states : List Cursors) (records : List Recor
 event_at setting states records k is less =
     (slice_index_or setting.plan.events k (SegmentEnd 0), slice_get-get_or setting.plan.events k (SegmentEnd 0) (omega (arith, is.within)))
 
-pub step_at : (setting : Setting) (states : List Cursors) (records : List Record) (k : ℕ) (e : OrderEvent) → IsPlaced setting states records → k < length states - 1
+pub step_at : (setting : Setting) (states : List Cursors) (records : List Record) (k : ℕ) (e : OrderEvent) → IsReady setting → IsPlaced setting states records → k < length states - 1
     → slice_get setting.plan.events k ≡ Some e → CarriesOut setting (known_before setting states records k) e (state_at states k) records (state_at states (k + 1))
-step_at setting states records k e is less here = (is.steps k e (omega arith) here).steps
+step_at setting states records k e ready is less here = events_are_carried_out setting states records ready is k e (omega arith) here
 
 abbrev FollowInFile : Setting → List Record → ℕ → ℕ → ℕ → Type 0
 FollowInFile setting records s low high = Follow (λ r. r.file_offset) file_end records (first_part setting.plan.sections s) (part_count setting.plan.sections s) low high
@@ -50,11 +52,11 @@ places_in_file setting standing (Some s) entered to records h =
     follow-le (λ r. r.file_offset) file_end records (first_part setting.plan.sections s) (part_count setting.plan.sections s) entered.file to.file (section_in_file setting s entered to records h.placed)
 
 -- the cursor of the file never falls
-pub file_rises : (setting : Setting) (states : List Cursors) (records : List Record) → IsPlaced setting states records
+pub file_rises : (setting : Setting) (states : List Cursors) (records : List Record) → IsReady setting → IsPlaced setting states records
     → (k : ℕ) → k < length states - 1 → (state_at states k).file ≤ (state_at states (k + 1)).file
-file_rises setting states records is k less =
+file_rises setting states records ready is k less =
     let event = event_at setting states records k is less in
-    let step = step_at setting states records k event.0 is less event.1 in
+    let step = step_at setting states records k event.0 ready is less event.1 in
     omega (
       arith,
       file_grows setting (known_before setting states records k) event.0 (state_at states k) step.entered step.moves,
@@ -62,10 +64,10 @@ file_rises setting states records is k less =
     )
 
 -- the parts that an event places follow one another between the cursors round it
-pub file_follows : (setting : Setting) (states : List Cursors) (records : List Record) → IsPlaced setting states records
+pub file_follows : (setting : Setting) (states : List Cursors) (records : List Record) → IsReady setting → IsPlaced setting states records
     → (k s : ℕ) → k < length states - 1 → slice_get setting.plan.events k ≡ Some (Section s) → FollowInFile setting records s (state_at states k).file (state_at states (k + 1)).file
-file_follows setting states records is k s less here =
-    let step = step_at setting states records k (Section s) is less here in
+file_follows setting states records ready is k s less here =
+    let step = step_at setting states records k (Section s) ready is less here in
     let from : Cursors = state_at states k in
     let to : Cursors = state_at states (k + 1) in
     widened (λ r. r.file_offset) file_end records (first_part setting.plan.sections s) (part_count setting.plan.sections s) step.entered.file to.file from.file to.file

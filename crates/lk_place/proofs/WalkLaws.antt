@@ -1,6 +1,6 @@
 -- The computed walk is the placement that `Placement` defines, and no other is.
 use Rattle.std.proofs.Common.{◌≡◌, ℕ, zero, suc, ◌+◌, ◌-◌, ◌≤◌, ◌<◌, ◌⊎◌, List, [], ◌∷◌, length, Option, Some, None, refl, sym, ap, subst, ◌∙◌, arith, inl, inr, add-one, add-zero, zero-add}
-use Rattle.std.specs.Prelude.{slice_get, option_map, Result, Ok, Err}
+use Rattle.std.specs.Prelude.{slice_get, Result, Ok, Err}
 use Rattle.std.specs.List.{slice_index_or}
 use Rattle.std.proofs.lemmas.Bool.{cases_lt}
 use Rattle.std.proofs.lemmas.List.{ext_get_or, get_or_past}
@@ -13,18 +13,19 @@ use Rattle.lk_link.proofs.Numbers.{length-made, made_at}
 use Rattle.lk_link.proofs.PartNumbers.{parts_end-le}
 use Rattle.lk_place.specs.declared.cursors.Cursors.{Cursors}
 use Rattle.lk_place.specs.declared.error.PlaceError.{PlaceError}
-use Rattle.lk_place.specs.declared.error.Refusal.{Refusal}
-use Rattle.lk_place.specs.Placement.{IsPlaced, known_before, IsPlacedBefore, Passes, Places, PlacesLoaded, CarriesOut, either_refusal, event_refusal, first_refusal, load_given, load_refusal, moved, numbered, placement_refusal, placing_refusal, record_by, refusal_behind, refusal_behind_move, refusal_of, section_left, section_overflow, section_refusal, section_start, state_at, step_refusal}
-use Rattle.lk_place.specs.InRegions.{past_region, stands_in}
+use Rattle.lk_place.specs.Placement.{IsPlaced, carried_out, first_refusal, known_before, placed_records, placement_refusal, refusal_behind, refusal_of, refused, state_at}
+use Rattle.lk_place.specs.CarriedOut.{IsPlacedBefore}
 use Rattle.lk_place.specs.PlacementLaws.{PlacementExists, PlacementIsOne}
-use Rattle.lk_place.specs.PlacedBefore.{Known, PlacedRecords}
+use Rattle.lk_place.specs.PlacedBefore.{Known, PlacedRecords, is_placed_before}
 use Rattle.lk_expressions.specs.Records.{Record, nowhere, record_at}
 use Rattle.lk_place.specs.Setting.{IsReady, Setting, part_count, part_number}
 use Rattle.lk_place.specs.Start.{BeginsAt, no_cursors, start}
-use Rattle.lk_place.specs.Walk.{AllPass, after_move, cursors_after, entered, first_state, known_after, left_behind, load_of, load_or_none, loaded_by, records_after, refused_at, record_after, left_by}
-use Rattle.lk_place.proofs.PlacedSections.{MakesSection, loaded_is, loaded_there, loads_at, made_places, places_makes, unloaded, unloaded_is}
+use Rattle.lk_place.specs.Walk.{AllPass, cursors_after, entered, first_state, known_after, left_by, records_after, refused_at, record_after}
+use Rattle.lk_place.proofs.EventSteps.{IsGiven, event_given, event_gives, given_records, made_records}
 use Rattle.lk_place.proofs.Knowing.{known_is}
-use Rattle.lk_place.proofs.WalkRecords.{PlacesAt, loaded_record, placed_below, placed_or_not, record_absent, record_kept, record_placed, section_there}
+use Rattle.lk_place.proofs.PartEvents.{none_placed, others_are_nowhere}
+use Rattle.lk_place.proofs.SectionParts.{AreWalked, given_walked, loaded_record, walked_given}
+use Rattle.lk_place.proofs.WalkRecords.{PlacesAt, placed_below, placed_or_not, record_absent, record_kept, record_placed, section_there}
 use Rattle.lk_place.proofs.WalkSteps.{cursors_first, cursors_next, has_first, has_none, record_first, start_given, starts}
 
 -- ---- the states
@@ -56,65 +57,6 @@ states_first : (setting : Setting) (k n : ℕ) → slice_get (states_from settin
 states_first setting k zero = refl
 states_first setting k (suc n) = refl
 
--- ---- one event that isn't refused
-
-unnumbered : (k : ℕ) (o : Option Refusal) → option_map (numbered k) o ≡ None → o ≡ None
-unnumbered k None h = refl
-unnumbered k (Some r) h = absurd (cc)
-
--- its move isn't refused
-move_given : (setting : Setting) (standing : PlacedRecords) (s : Option ℕ) (from : Cursors) (o : Result Cursors Refusal) → refusal_behind_move setting standing s o ≡ None → o ≡ Ok (after_move from o)
-move_given setting standing s from (Ok c) h = refl
-move_given setting standing s from (Err r) h = absurd (cc)
-
-first_none : (a b : Option Refusal) → either_refusal a b ≡ None → a ≡ None
-first_none None b h = refl
-first_none (Some r) b h = absurd (cc)
-
-later_none : (a b : Option Refusal) → either_refusal a b ≡ None → b ≡ None
-later_none None b h = h
-later_none (Some r) b h = absurd (cc)
-
-load_passes : (o : Result (Option ℕ) Refusal) → load_refusal o ≡ None → o ≡ Ok (load_or_none o)
-load_passes (Ok load) h = refl
-load_passes (Err r) h = absurd (cc)
-
--- the load address of its section isn't refused either
-load_there : (setting : Setting) (standing : PlacedRecords) (s : ℕ) (c : Cursors) → section_refusal setting standing (Some s) c ≡ None → load_given setting standing s c ≡ Ok (load_of setting standing s c)
-load_there setting standing s c h =
-    let placing : placing_refusal setting standing s c ≡ None = first_none (placing_refusal setting standing s c) (past_region setting (stands_in setting.plan s) (section_left setting s c).memory) h in
-    load_passes (load_given setting standing s c) (later_none (section_overflow setting s c) (load_refusal (load_given setting standing s c)) placing)
-
--- these records are those that the walk computes for the parts of a section
-abbrev AreWalked : Setting → PlacedRecords → ℕ → Cursors → List Record → Type 0
-AreWalked setting standing s c records = (j : ℕ) → j < part_count setting.plan.sections s
-    → record_at records (part_number setting.plan.sections s j) ≡ loaded_record setting standing s c (part_number setting.plan.sections s j)
-
--- what it places, in words of the walk
-event_places : (setting : Setting) (standing : PlacedRecords) (e : OrderEvent) (c : Cursors) (records : List Record) (to : Cursors) → IsReady setting
-    → to ≡ left_behind setting (placed_section e) c
-    → section_refusal setting standing (placed_section e) c ≡ None
-    → ((s : ℕ) → e ≡ Section s → s < length setting.plan.sections)
-    → ((s : ℕ) → e ≡ Section s → AreWalked setting standing s c records)
-    → Places setting standing (placed_section e) c records to
-unfolding left_behind
-event_places setting standing (SegmentStart i) c records to ready is none there made = is
-event_places setting standing (SegmentEnd i) c records to ready is none there made = is
-event_places setting standing (SetLocation x) c records to ready is none there made = is
-event_places setting standing (SetLocationRelative x t) c records to ready is none there made = is
-event_places setting standing (SetSectionAddress x) c records to ready is none there made = is
-event_places setting standing (Section s) c records to ready is none there made =
-    let load : Option ℕ = load_of setting standing s c in
-    let number : ℕ → ℕ = part_number setting.plan.sections s in
-    let placed : ℕ → Record = λ j. record_by setting s (section_start setting s c) (number j) in
-    let own : (j : ℕ) → unloaded (placed j) ≡ placed j = λ j. loaded_there setting s (section_start setting s c) (number j) in
-    record {
-      placed = made_places setting s c records to ready (there s refl) (λ j less. unloaded_is load (record_at records (number j)) (placed j) (own j) (made s refl j less)) is;
-      load = load;
-      given = load_there setting standing s c none;
-      loaded = λ j less. loads_at load (record_at records (number j)) (placed j) (own j) (made s refl j less);
-    }
-
 -- ---- there is a placement
 
 -- the walk over the first n events, of which none is refused; the next is, or there is none
@@ -137,35 +79,42 @@ walk_known setting n k records walk le =
     ∙ sym (made_at (record_after setting k) nowhere (all_parts setting.plan.sections) 0 p below ∙ ap (record_after setting k) (zero-add p)))
     (λ j early. state_is setting n j (omega (arith, early, le)))
 
-walk_passes : (setting : Setting) (n : ℕ) (records : List Record) → IsWalk setting n records
-    → (k : ℕ) (e : OrderEvent) → k < n → slice_get setting.plan.events k ≡ Some e → Passes setting (states_to setting n) records k e
-walk_passes setting n records walk k e less here =
+-- what the records tell of an event's section is what the walk makes of it
+event_made : (setting : Setting) (standing : PlacedRecords) (e : OrderEvent) (c : Cursors) (records : List Record) → length records ≡ length (all_parts setting.plan.sections)
+    → ((s : ℕ) → e ≡ Section s → s < length setting.plan.sections)
+    → ((s : ℕ) → e ≡ Section s → AreWalked setting standing s c records)
+    → placed_records setting records e ≡ given_records setting standing (placed_section e) c
+event_made setting standing (SegmentStart i) c records each there made = refl
+event_made setting standing (SegmentEnd i) c records each there made = refl
+event_made setting standing (SetLocation x) c records each there made = refl
+event_made setting standing (SetLocationRelative x t) c records each there made = refl
+event_made setting standing (SetSectionAddress x) c records each there made = refl
+event_made setting standing (Section s) c records each there made = walked_given setting standing s c records each (there s refl) (made s refl)
+
+walk_gives : (setting : Setting) (n : ℕ) (records : List Record) → IsWalk setting n records
+    → (k : ℕ) (e : OrderEvent) → k < n → slice_get setting.plan.events k ≡ Some e
+    → carried_out setting (known_before setting (states_to setting n) records k) e (state_at (states_to setting n) k) ≡ Ok (state_at (states_to setting n) (k + 1), placed_records setting records e)
+walk_gives setting n records walk k e less here =
     let from : Cursors = cursors_after setting k in
     let known : Known = known_after setting k in
     let same : known ≡ known_before setting (states_to setting n) records k = sym (walk_known setting n k records walk (omega arith)) in
     let at : state_at (states_to setting n) k ≡ from = state_is setting n k (omega arith) in
-    let next : state_at (states_to setting n) (k + 1) ≡ left_behind setting (placed_section e) (entered setting known e from) =
+    let next : state_at (states_to setting n) (k + 1) ≡ left_by setting known (Some e) from =
     state_is setting n (k + 1) (omega arith) ∙ cursors_next setting k ∙ ap (λ (o : Option OrderEvent). left_by setting known o from) here in
-    let unrefused : step_refusal setting known k e from ≡ None = ap (λ (o : Option OrderEvent). refusal_of setting known k o from) (sym here) ∙ walk.pass k less in
-    let passes : event_refusal setting known e from ≡ None = unnumbered k (event_refusal setting known e from) unrefused in
-    let gives : moved setting known e from ≡ Ok (entered setting known e from) = move_given setting known.standing (placed_section e) from (moved setting known e from) passes in
-    let stays : section_refusal setting known.standing (placed_section e) (entered setting known e from) ≡ None = ap (refusal_behind_move setting known.standing (placed_section e)) (sym gives) ∙ passes in
-    let places : Places setting known.standing (placed_section e) (entered setting known e from) records (state_at (states_to setting n) (k + 1)) =
-    event_places setting known.standing e (entered setting known e from) records (state_at (states_to setting n) (k + 1)) walk.ready next stays
+    let unrefused : refusal_of setting known k (Some e) from ≡ None = ap (λ (o : Option OrderEvent). refusal_of setting known k o from) (sym here) ∙ walk.pass k less in
+    let made : placed_records setting records e ≡ made_records setting known e from =
+    event_made setting known.standing e (entered setting known e from) records walk.each
     (λ s is. section_there setting k s walk.ready (here ∙ ap (λ (x : OrderEvent). Some x) is))
     (λ s is j within.
     let there : PlacesAt setting k s = here ∙ ap (λ (x : OrderEvent). Some x) is in
     walk.at (part_number setting.plan.sections s j) (omega (arith, parts_end-le setting.plan.sections s (section_there setting k s walk.ready there)))
     ∙ record_placed setting k s j n walk.ready there within less
     ∙ ap (λ (x : OrderEvent). loaded_record setting known.standing s (entered setting known x from) (part_number setting.plan.sections s j)) (sym is)) in
-    record {
-      unrefused = ap (λ (x : Known). step_refusal setting x k e (state_at (states_to setting n) k)) (sym same) ∙ ap (step_refusal setting known k e) at ∙ unrefused;
-      steps = record {
-        entered = entered setting known e from;
-        moves = ap (λ (x : Known). moved setting x e (state_at (states_to setting n) k)) (sym same) ∙ ap (moved setting known e) at ∙ gives;
-        places = subst (λ (x : Known). Places setting x.standing (placed_section e) (entered setting known e from) records (state_at (states_to setting n) (k + 1))) same places;
-      };
-    }
+    ap (λ (x : Known). carried_out setting x e (state_at (states_to setting n) k)) (sym same)
+    ∙ ap (carried_out setting known e) at
+    ∙ event_gives setting known k e from unrefused
+    ∙ ap (λ (c : Cursors). Ok (c, made_records setting known e from)) (sym next)
+    ∙ ap (λ (rs : List Record). Ok (state_at (states_to setting n) (k + 1), rs)) (sym made)
 
 -- what stands behind the states is what comes next
 pub walk_refusal : (setting : Setting) (n : ℕ) (records : List Record) → start setting ≡ Ok (first_state setting) → known_before setting (states_to setting n) records n ≡ known_after setting n
@@ -183,13 +132,13 @@ walk_is_placed setting n records walk =
     record {
       begins = subst (λ (r : Result Cursors PlaceError). BeginsAt r (states_to setting n)) (sym walk.starts) (states_first setting 0 n ∙ ap (λ (c : Cursors). Some c) (sym (cursors_first setting)));
       within = omega (arith, count, walk.within);
-      steps = λ k e more here. walk_passes setting n records walk k e (omega (arith, count)) here;
+      steps = λ k e more here. walk_gives setting n records walk k e (omega (arith, count)) here;
       ends = λ none. omega (arith, count, walk.stops (sym (walk_refusal setting n records walk.starts (walk_known setting n n records walk (omega arith))) ∙ none));
       each = walk.each;
       others = λ p none.
           let last : length (states_to setting n) - 1 ≡ n = omega (arith, count) in
           elim (cases_lt p (length (all_parts setting.plan.sections))) [
-            | inl there ↦ walk.at p there ∙ record_absent setting n p (λ h. none (subst (λ (m : ℕ). IsPlacedBefore setting m p) (sym last) h))
+            | inl there ↦ walk.at p there ∙ record_absent setting n p (none_placed setting n p (ap (λ (m : ℕ). is_placed_before setting.plan m p) (sym last) ∙ none))
             | inr past ↦ get_or_past records p nowhere (omega (arith, walk.each))
           ];
     }
@@ -270,20 +219,6 @@ placement_exists setting ready =
 
 -- ---- it is one
 
--- what an event that places nothing or a section leaves
-event_makes : (setting : Setting) (standing : PlacedRecords) (e : OrderEvent) (c : Cursors) (records : List Record) (to : Cursors) → IsReady setting → ((s : ℕ) → e ≡ Section s → s < length setting.plan.sections)
-    → Places setting standing (placed_section e) c records to → to ≡ left_behind setting (placed_section e) c
-unfolding left_behind
-event_makes setting standing (SegmentStart i) c records to ready there places = places
-event_makes setting standing (SegmentEnd i) c records to ready there places = places
-event_makes setting standing (SetLocation x) c records to ready there places = places
-event_makes setting standing (SetLocationRelative x t) c records to ready there places = places
-event_makes setting standing (SetSectionAddress x) c records to ready there places = places
-event_makes setting standing (Section s) c records to ready there places = (places_makes setting s c records to ready (there s refl) places.placed).leaves
-
-entered_is : (from c : Cursors) (o : Result Cursors Refusal) → o ≡ Ok c → after_move from o ≡ c
-entered_is from c o h = ap (after_move from) h
-
 -- the records of a section that event k places are those that the walk computes there, where the state before it is
 section_as_walked : (setting : Setting) (states : List Cursors) (records : List Record) (k s j n : ℕ) → IsReady setting → IsPlaced setting states records
     → k + 1 < length states → slice_get setting.plan.events k ≡ Some (Section s) → j < part_count setting.plan.sections s → k < n
@@ -291,20 +226,14 @@ section_as_walked : (setting : Setting) (states : List Cursors) (records : List 
     → record_at records (part_number setting.plan.sections s j) ≡ record_after setting n (part_number setting.plan.sections s j)
 section_as_walked setting states records k s j n ready is more here within early state same =
     let e : OrderEvent = Section s in
-    let there : s < length setting.plan.sections = section_there setting k s ready here in
-    let steps : CarriesOut setting (known_before setting states records k) e (state_at states k) records (state_at states (k + 1)) = (is.steps k e more here).steps in
-    let enters : steps.entered ≡ entered setting (known_after setting k) e (cursors_after setting k) =
-    sym (entered_is (state_at states k) steps.entered (moved setting (known_before setting states records k) e (state_at states k)) steps.moves)
-    ∙ ap (λ (x : Known). entered setting x e (state_at states k)) same ∙ ap (entered setting (known_after setting k) e) state in
-    let places : PlacesLoaded setting (known_before setting states records k).standing s steps.entered records (state_at states (k + 1)) = steps.places in
-    let makes : MakesSection setting s steps.entered records (state_at states (k + 1)) =
-    places_makes setting s steps.entered records (state_at states (k + 1)) ready there places.placed in
     let p : ℕ = part_number setting.plan.sections s j in
-    let placed : Record = record_by setting s (section_start setting s steps.entered) p in
-    loaded_is places.load (record_at records p) placed (makes.made j within) (places.loaded j within)
-    ∙ ap (λ (o : Option ℕ). loaded_by o placed) (sym (ap load_or_none places.given))
-    ∙ ap (λ (x : Known). loaded_record setting x.standing s steps.entered p) same
-    ∙ ap (λ (c : Cursors). loaded_record setting (known_after setting k).standing s c p) enters
+    let known : Known = known_before setting states records k in
+    let from : Cursors = state_at states k in
+    let given : IsGiven setting known e from (state_at states (k + 1), placed_records setting records e) =
+    event_given setting known e from (state_at states (k + 1), placed_records setting records e) (is.steps k e more here) in
+    given_walked setting known.standing s (entered setting known e from) records (section_there setting k s ready here) (sym given.makes) j within
+    ∙ ap (λ (x : Known). loaded_record setting x.standing s (entered setting x e from) p) same
+    ∙ ap (λ (c : Cursors). loaded_record setting (known_after setting k).standing s (entered setting (known_after setting k) e c) p) state
     ∙ sym (record_placed setting k s j n ready here within early)
 
 -- the records so far tell what the walk knows
@@ -327,13 +256,11 @@ next_state setting states records k ready is more before =
     let e : OrderEvent = slice_index_or setting.plan.events k (SegmentEnd 0) in
     let here : slice_get setting.plan.events k ≡ Some e = slice_get-get_or setting.plan.events k (SegmentEnd 0) (omega (arith, is.within)) in
     let same = known_so_far setting k states records before.walked ready is.each before.so_far in
-    let steps : CarriesOut setting (known_before setting states records k) e (state_at states k) records (state_at states (k + 1)) = (is.steps k e more here).steps in
-    let enters : entered setting (known_after setting k) e (cursors_after setting k) ≡ steps.entered =
-    ap (entered setting (known_after setting k) e) (sym (before.walked k (omega arith)))
-    ∙ ap (λ (x : Known). entered setting x e (state_at states k)) (sym same)
-    ∙ entered_is (state_at states k) steps.entered (moved setting (known_before setting states records k) e (state_at states k)) steps.moves in
-    event_makes setting (known_before setting states records k).standing e steps.entered records (state_at states (k + 1)) ready (λ s at. section_there setting k s ready (here ∙ ap (λ (x : OrderEvent). Some x) at)) steps.places
-    ∙ ap (left_behind setting (placed_section e)) (sym enters)
+    let given : IsGiven setting (known_before setting states records k) e (state_at states k) (state_at states (k + 1), placed_records setting records e) =
+    event_given setting (known_before setting states records k) e (state_at states k) (state_at states (k + 1), placed_records setting records e) (is.steps k e more here) in
+    sym given.leaves
+    ∙ ap (λ (x : Known). left_by setting x (Some e) (state_at states k)) same
+    ∙ ap (left_by setting (known_after setting k) (Some e)) (before.walked k (omega arith))
     ∙ ap (λ (o : Option OrderEvent). left_by setting (known_after setting k) o (cursors_after setting k)) (sym here)
     ∙ sym (cursors_next setting k)
 
@@ -393,9 +320,9 @@ placed_is_walk setting states records ready some is =
           let here : slice_get setting.plan.events k ≡ Some e = slice_get-get_or setting.plan.events k (SegmentEnd 0) (omega (arith, is.within)) in
           let at : IsAsWalked setting states records k = walked k (omega arith) in
           ap (λ (o : Option OrderEvent). refusal_of setting (known_after setting k) k o (cursors_after setting k)) here
-          ∙ ap (step_refusal setting (known_after setting k) k e) (sym (at.walked k (omega arith)))
-          ∙ ap (λ (x : Known). step_refusal setting x k e (state_at states k)) (sym (known_so_far setting k states records at.walked ready is.each at.so_far))
-          ∙ (is.steps k e (omega arith) here).unrefused;
+          ∙ ap (refusal_of setting (known_after setting k) k (Some e)) (sym (at.walked k (omega arith)))
+          ∙ ap (λ (x : Known). refusal_of setting x k (Some e) (state_at states k)) (sym (known_so_far setting k states records at.walked ready is.each at.so_far))
+          ∙ ap (refused k) (is.steps k e (omega arith) here);
       stops = λ none.
           let same : placement_refusal setting states records ≡ None =
           ap (λ (r : Result Cursors PlaceError). first_refusal r (refusal_behind setting states records)) given
@@ -405,7 +332,7 @@ placed_is_walk setting states records ready some is =
       each = is.each;
       at = λ p below.
           elim (placed_or_not setting n p) [
-            | inr none ↦ is.others p none ∙ sym (record_absent setting n p none)
+            | inr none ↦ others_are_nowhere setting states records is p none ∙ sym (record_absent setting n p none)
             | inl h ↦ last.so_far p h
           ];
     }
@@ -440,7 +367,7 @@ begun_is_one setting states states' records records' ready some some' h g =
 -- where it is refused nothing is placed
 unbegun_nowhere : (setting : Setting) (states : List Cursors) (records : List Record) → states ≡ [] → IsPlaced setting states records → (p : ℕ) → record_at records p ≡ nowhere
 unbegun_nowhere setting states records empty is p =
-    is.others p (λ (h : IsPlacedBefore setting (length states - 1) p). absurd (omega (arith, h.early, ap length empty)))
+    others_are_nowhere setting states records is p (λ (h : IsPlacedBefore setting (length states - 1) p). absurd (omega (arith, h.early, ap length empty)))
 
 pub placement_is_one : PlacementIsOne
 placement_is_one setting states states' records records' ready h g =

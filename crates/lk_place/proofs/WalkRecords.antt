@@ -1,22 +1,24 @@
 -- The records behind some events: those of the sections that they place, and nowhere for all others.
-use Rattle.std.proofs.Common.{◌≡◌, ℕ, zero, suc, ◌+◌, ◌-◌, ◌≤◌, ◌<◌, ◌⊎◌, Bool, true, false, cond, List, length, Option, Some, None, refl, sym, ap, subst, ◌∙◌, arith, inl, inr}
+use Rattle.std.proofs.Common.{◌≡◌, ℕ, zero, suc, ◌+◌, ◌≤◌, ◌<◌, ◌⊎◌, Bool, true, false, cond, List, length, Option, Some, None, refl, sym, ap, subst, ◌∙◌, arith, inl, inr}
 use Rattle.std.specs.Prelude.{slice_get}
 use Rattle.std.proofs.lemmas.Bool.{cases_Bool, cases_lt}
-use Rattle.std.proofs.lemmas.Bool.Decides.{nat_tests}
 use Rattle.lk_link.specs.declared.plan.OrderEvent.{OrderEvent}
 use Rattle.lk_link.specs.declared.plan.OrderEvent.TheVariants.{SegmentStart, SegmentEnd, Section, SetLocation, SetLocationRelative, SetSectionAddress}
 use Rattle.lk_link.specs.declared.plan.PlanSection.{PlanSection}
 use Rattle.lk_link.specs.Parts.{all_parts, first_part}
 use Rattle.lk_link.proofs.PartNumbers.{first_part-suc, parts_end-le}
 use Rattle.lk_place.specs.declared.cursors.Cursors.{Cursors}
-use Rattle.lk_place.specs.Placement.{IsPlacedBefore, record_by, section_start}
-use Rattle.lk_place.specs.PlacedBefore.{Known, PlacedRecords, lies_in}
+use Rattle.lk_place.specs.Placement.{loaded_by, record_by, section_start}
+use Rattle.lk_place.specs.CarriedOut.{IsPlacedBefore}
+use Rattle.lk_place.specs.PlacedBefore.{Known, lies_in}
 use Rattle.lk_place.specs.Ranges.{HasPart}
 use Rattle.lk_expressions.specs.Records.{Record, nowhere}
 use Rattle.lk_place.specs.Setting.{IsReady, Setting, part_count, part_number}
-use Rattle.lk_place.specs.Walk.{cursors_after, entered, known_after, load_of, loaded_by, record_after, recorded, rewritten, walk_after}
+use Rattle.lk_place.specs.Walk.{cursors_after, entered, known_after, load_of, record_after, recorded, rewritten, walk_after}
 use Rattle.lk_place.proofs.ApartLaws.{section_one}
 use Rattle.lk_place.proofs.Insides.{placed_in_range}
+use Rattle.lk_place.proofs.PartEvents.{among_is, among_part}
+use Rattle.lk_place.proofs.SectionParts.{loaded_record}
 
 -- event k places section s
 abbrev pub PlacesAt : Setting → ℕ → ℕ → Type 0
@@ -25,17 +27,6 @@ PlacesAt setting k s = slice_get setting.plan.events k ≡ Some (Section s)
 -- a section that an event places is there
 pub section_there : (setting : Setting) (k s : ℕ) → IsReady setting → PlacesAt setting k s → s < length setting.plan.sections
 section_there setting k s ready here = placed_in_range setting.plan (Section s) s (ready.events.in_range k (Section s) here) refl
-
--- ---- whether a part is one of a section
-
-pub among_part : (first count j : ℕ) → j < count → lies_in first count (first + j) ≡ true
-among_part first count j h = grind (arith, nat_tests)
-
-pub among_is : (first count p : ℕ) → lies_in first count p ≡ true → (j : ℕ) × (j < count) × (p ≡ first + j)
-among_is first count p h =
-    let from : first ≤ p = grind (arith, nat_tests) in
-    let below : p < first + count = grind (arith, nat_tests) in
-    (p - first, omega arith, omega arith)
 
 -- a part of one section isn't one of another
 pub among_other : (setting : Setting) (s t j : ℕ) → s < length setting.plan.sections → t < length setting.plan.sections → (s ≡ t → ⊥) → j < part_count setting.plan.sections s
@@ -53,10 +44,6 @@ among_other setting s t j below there other less =
     ]
 
 -- ---- one event
-
--- the computed record of part p of a section, loaded from the section's load address
-abbrev pub loaded_record : Setting → PlacedRecords → ℕ → Cursors → ℕ → Record
-loaded_record setting standing s from p = loaded_by (load_of setting standing s from) (record_by setting s (section_start setting s from) p)
 
 -- an event that places section s makes the records of its parts
 recorded_here : (setting : Setting) (known : Known) (s j : ℕ) (c : Cursors) (old : Record) → j < part_count setting.plan.sections s

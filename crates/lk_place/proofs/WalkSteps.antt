@@ -1,6 +1,6 @@
 -- One event more of the walk.
 use Rattle.std.proofs.Common.{◌≡◌, ℕ, suc, ◌+◌, ◌<◌, List, [], ◌∷◌, ◌++◌, drop, length, Option, arith, Some, None, refl, sym, ap, subst, ◌∙◌, add-one, below_more}
-use Rattle.std.specs.Prelude.{slice_get, option_map, Result, Ok, Err, OnOk, IsErrAnd}
+use Rattle.std.specs.Prelude.{slice_get, Result, Ok, Err, OnOk, IsErrAnd}
 use Rattle.std.specs.Option.{option_map_or, option_or}
 use Rattle.std.specs.List.{enumerate_from, flat_map, slice_index, slice_index_or}
 use Rattle.std.proofs.Math.Seq.{drop-cons, drop-length}
@@ -14,7 +14,7 @@ use Rattle.lk_place.specs.declared.cursors.Cursors.{Cursors}
 use Rattle.lk_place.specs.declared.error.PlaceError.{PlaceError}
 use Rattle.lk_place.specs.declared.error.PlaceError.TheVariants.{AddressOverflow, BaseTooLow, Expression, LocationBackwards, NoMemory, OutsideRegion, RegionDuplicate, RegionOverflow, RegionUnknown, SectionOutsideSegments}
 use Rattle.lk_place.specs.declared.error.Refusal.{Refusal}
-use Rattle.lk_place.specs.Placement.{event_refusal, numbered, refusal_of}
+use Rattle.lk_place.specs.Placement.{carried_out, refusal_of, refused}
 use Rattle.lk_place.specs.Counters.{told_counter}
 use Rattle.lk_place.specs.InRegions.{span_of}
 use Rattle.lk_place.specs.PlacedBefore.{Known, last_before}
@@ -22,7 +22,8 @@ use Rattle.lk_expressions.specs.Records.{Record, nowhere}
 use Rattle.lk_place.specs.Setting.{Setting}
 use Rattle.lk_place.specs.Start.{BeginsAt, start}
 use Rattle.lk_place.specs.ThreadLocal.{is_in_run}
-use Rattle.lk_place.specs.Walk.{AllPass, GivesWalked, GoesOn, goes_on_after, told_after, went_on, StopsBy, at_event, begun, cursors_after, first_state, known_after, refused_at, walk_after, record_after, recorded, left_by, unless}
+use Rattle.lk_place.specs.Walk.{AllPass, GivesWalked, GoesOn, goes_on_after, told_after, went_on, StopsBy, at_event, begun, cursors_after, cursors_of, first_state, known_after, refused_at, walk_after, record_after, recorded, left_by}
+use Rattle.lk_place.proofs.EventSteps.{event_given}
 use Rattle.lk_place.proofs.LastOnes.{last_next}
 
 -- the walk begins where the placement does
@@ -85,23 +86,30 @@ goes_on_first setting r = refl
 pub record IsTried (setting : Setting) (k : ℕ) (e : OrderEvent) (from : Cursors) (end : Result Cursors Refusal) : Type 0 where
   pub here : slice_get setting.plan.events k ≡ Some e
   pub so_far : from ≡ cursors_after setting k
-  pub gave : end ≡ unless (event_refusal setting (known_after setting k) e from) (left_by setting (known_after setting k) (Some e) from)
+  pub gave : end ≡ cursors_of (carried_out setting (known_after setting k) e from)
   pub before : AllPass setting k
 
-told_refused : (setting : Setting) (k : ℕ) (x : Cursors) (o : Option Refusal) (err : PlaceError) → Err err ≡ at_event (unless o x) k → option_map (numbered k) o ≡ Some err
-told_refused setting k x None err h = absurd (cc)
-told_refused setting k x (Some r) err h = cc
+told_refused : (k : ℕ) (given : Result (Cursors × List Record) Refusal) (err : PlaceError) → Err err ≡ at_event (cursors_of given) k → refused k given ≡ Some err
+told_refused k (Ok x) err h = absurd (cc)
+told_refused k (Err r) err h = cc
 
-told_passed : (k : ℕ) (x to : Cursors) (o : Option Refusal) → Ok to ≡ at_event (unless o x) k → (o ≡ None) × (to ≡ x)
-told_passed k x to None h = (refl, cc)
-told_passed k x to (Some r) h = absurd (cc)
+-- what passes gives something, with these cursors
+record IsPassed (k : ℕ) (given : Result (Cursors × List Record) Refusal) (to : Cursors) : Type 0 where
+  unrefused : refused k given ≡ None
+  made : Cursors × List Record
+  gives : given ≡ Ok made
+  leaves : to ≡ made.0
+
+told_passed : (k : ℕ) (to : Cursors) (given : Result (Cursors × List Record) Refusal) → Ok to ≡ at_event (cursors_of given) k → IsPassed k given to
+told_passed k to (Ok x) h = record { unrefused = refl; made = x; gives = refl; leaves = cc }
+told_passed k to (Err r) h = absurd (cc)
 
 -- its refusal is the first
 pub stops : (setting : Setting) (k : ℕ) (e : OrderEvent) (from : Cursors) (end : Result Cursors Refusal) (err : PlaceError) → IsTried setting k e from end → Err err ≡ at_event end k → StopsBy setting err
 stops setting k e from end err tried h =
     let known : Known = known_after setting k in
-    let there : Err err ≡ at_event (unless (event_refusal setting known e from) (left_by setting known (Some e) from)) k = h ∙ ap (λ (r : Result Cursors Refusal). at_event r k) tried.gave in
-    let refused : refusal_of setting known k (Some e) from ≡ Some err = told_refused setting k (left_by setting known (Some e) from) (event_refusal setting known e from) err there in
+    let there : Err err ≡ at_event (cursors_of (carried_out setting known e from)) k = h ∙ ap (λ (r : Result Cursors Refusal). at_event r k) tried.gave in
+    let refused : refusal_of setting known k (Some e) from ≡ Some err = told_refused k (carried_out setting known e from) err there in
     record {
       k = k;
       before = tried.before;
@@ -109,9 +117,11 @@ stops setting k e from end err tried h =
     }
 
 passed : (setting : Setting) (k : ℕ) (e : OrderEvent) (from to : Cursors) (end : Result Cursors Refusal) → IsTried setting k e from end → Ok to ≡ at_event end k
-    → (event_refusal setting (known_after setting k) e from ≡ None) × (to ≡ left_by setting (known_after setting k) (Some e) from)
+    → (refused k (carried_out setting (known_after setting k) e from) ≡ None) × (to ≡ left_by setting (known_after setting k) (Some e) from)
 passed setting k e from to end tried h =
-    told_passed k (left_by setting (known_after setting k) (Some e) from) to (event_refusal setting (known_after setting k) e from) (h ∙ ap (λ (r : Result Cursors Refusal). at_event r k) tried.gave)
+    let known : Known = known_after setting k in
+    let passes : IsPassed k (carried_out setting known e from) to = told_passed k to (carried_out setting known e from) (h ∙ ap (λ (r : Result Cursors Refusal). at_event r k) tried.gave) in
+    (passes.unrefused, passes.leaves ∙ sym (event_given setting known e from passes.made passes.gives).leaves)
 
 -- the cursors behind it
 pub goes_on : (setting : Setting) (k : ℕ) (e : OrderEvent) (from to : Cursors) (end : Result Cursors Refusal) → IsTried setting k e from end → Ok to ≡ at_event end k → to ≡ cursors_after setting (k + 1)
@@ -127,7 +137,7 @@ passes_on setting k e from to end tried h =
     let here : refused_at setting k ≡ None =
     ap (λ (o : Option OrderEvent). refusal_of setting (known_after setting k) k o (cursors_after setting k)) tried.here
     ∙ ap (refusal_of setting (known_after setting k) k (Some e)) (sym tried.so_far)
-    ∙ ap (option_map (numbered k)) (passed setting k e from to end tried h).0 in
+    ∙ (passed setting k e from to end tried h).0 in
     below_more (λ (j : ℕ). refused_at setting j ≡ None) k tried.before here
 
 -- the records behind it

@@ -1,6 +1,6 @@
 -- Where expressions name no symbol, values and placements are the same wherever symbols stand.
-use Rattle.std.proofs.Common.{◌≡◌, ℕ, zero, suc, ◌+◌, ◌-◌, Bool, true, List, [], ◌∷◌, length, Option, Some, None, Result, Ok, Err, refl, sym, ap, ◌∙◌}
-use Rattle.std.specs.Prelude.{◌&&◌, option_map, slice_get}
+use Rattle.std.proofs.Common.{◌≡◌, ℕ, zero, suc, ◌-◌, Bool, true, List, [], ◌∷◌, length, Option, Some, None, Result, Ok, Err, refl, sym, ap, ◌∙◌}
+use Rattle.std.specs.Prelude.{◌&&◌, map, slice_get}
 use Rattle.std.specs.List.{list_all, slice_index_or}
 use Rattle.std.proofs.lemmas.Bool.{and_parts}
 use Rattle.lk_link.specs.declared.plan.OrderEvent.{OrderEvent}
@@ -18,11 +18,11 @@ use Rattle.lk_place.specs.declared.error.PlaceError.TheVariants as place
 use Rattle.lk_place.specs.declared.error.Refusal.{Refusal}
 use Rattle.lk_expressions.specs.declared.positions.SymbolPosition.{SymbolPosition}
 use Rattle.lk_place.specs.Answers.{IsRefused}
-use Rattle.lk_expressions.specs.Expressions.{Valued, expression_value}
+use Rattle.lk_expressions.specs.Expressions.{Valued, ◌>>=◌, expression_value}
 use Rattle.lk_expressions.specs.Named.{loads_by_none, moves_by_none, names_no_symbol, names_none}
 use Rattle.lk_place.specs.Locations.{awaiting, behind_start}
 use Rattle.lk_place.specs.PlacedBefore.{Known, PlacedRecords, dot_of, early_known, early_value, refusing}
-use Rattle.lk_place.specs.Placement.{CarriesOut, IsPlaced, IsPlacedBefore, Passes, Places, PlacesSection, either_refusal, first_refusal, known_before, load_by, load_given, load_refusal, loading, moved, numbered, placement_refusal, refusal_behind_move, refusal_of, section_left, section_overflow, section_refusal, section_start, standing_with, state_at, step_refusal}
+use Rattle.lk_place.specs.Placement.{IsPlaced, carried_out, first_refusal, known_before, load_by, load_given, loaded_by, loading, moved, placed_by, placement_refusal, records_by, refusal_of, refused, section_left, section_overflow, section_start, standing_with, state_at, unless}
 use Rattle.lk_place.specs.InRegions.{past_region, stands_in}
 use Rattle.lk_expressions.specs.Records.{Record}
 use Rattle.lk_place.specs.Setting.{Setting}
@@ -81,54 +81,29 @@ moved_alike setting positions known (SetSectionAddress x) from none =
     ap (λ (v : Valued). awaiting from (refusing v)) (early_alike setting positions known.standing from x none)
 
 section_alike : (setting : Setting) (positions : List (Option SymbolPosition)) (standing : PlacedRecords) (s : Option ℕ) (from : Cursors) → LoadWithoutSymbols setting
-    → section_refusal (with_positions setting positions) standing s from ≡ section_refusal setting standing s from
+    → placed_by (with_positions setting positions) standing s from ≡ placed_by setting standing s from
 section_alike setting positions standing None from loads = refl
 section_alike setting positions standing (Some s) from loads =
-    ap (λ (load : Result (Option ℕ) Refusal). either_refusal (either_refusal (section_overflow setting s from) (load_refusal load)) (past_region setting (stands_in setting.plan s) (section_left setting s from).memory))
+    ap (λ (given : Result (Option ℕ) Refusal). unless (section_overflow setting s from) (section_left setting s from) >>= λ to. given >>= λ load.
+    unless (past_region setting (stands_in setting.plan s) to.memory) (to, map (loaded_by load) (records_by setting s (section_start setting s from))))
     (load_alike setting positions standing s from loads)
 
 behind_alike : (setting : Setting) (positions : List (Option SymbolPosition)) (standing : PlacedRecords) (s : Option ℕ) (r : Result Cursors Refusal) → LoadWithoutSymbols setting
-    → refusal_behind_move (with_positions setting positions) standing s r ≡ refusal_behind_move setting standing s r
+    → (r >>= placed_by (with_positions setting positions) standing s) ≡ (r >>= placed_by setting standing s)
 behind_alike setting positions standing s (Ok entered) loads = section_alike setting positions standing s entered loads
 behind_alike setting positions standing s (Err refusal) loads = refl
 
--- an event is refused alike
-event_alike : (setting : Setting) (positions : List (Option SymbolPosition)) (known : Known) (k : ℕ) (e : OrderEvent) (from : Cursors) → LoadWithoutSymbols setting → moves_by_none e ≡ true
-    → step_refusal (with_positions setting positions) known k e from ≡ step_refusal setting known k e from
-event_alike setting positions known k e from loads none =
-    ap (option_map (numbered k)) (
-    ap (refusal_behind_move (with_positions setting positions) known.standing (placed_section e)) (moved_alike setting positions known e from none)
-    ∙ behind_alike setting positions known.standing (placed_section e) (moved setting known e from) loads)
+-- an event gives what it gives
+event_alike : (setting : Setting) (positions : List (Option SymbolPosition)) (known : Known) (e : OrderEvent) (from : Cursors) → LoadWithoutSymbols setting → moves_by_none e ≡ true
+    → carried_out (with_positions setting positions) known e from ≡ carried_out setting known e from
+event_alike setting positions known e from loads none =
+    ap (λ (r : Result Cursors Refusal). r >>= placed_by (with_positions setting positions) known.standing (placed_section e)) (moved_alike setting positions known e from none)
+    ∙ behind_alike setting positions known.standing (placed_section e) (moved setting known e from) loads
 
 at_alike : (setting : Setting) (positions : List (Option SymbolPosition)) (known : Known) (k : ℕ) (o : Option OrderEvent) (from : Cursors) → LoadWithoutSymbols setting
     → ((e : OrderEvent) → o ≡ Some e → moves_by_none e ≡ true) → refusal_of (with_positions setting positions) known k o from ≡ refusal_of setting known k o from
 at_alike setting positions known k None from loads none = refl
-at_alike setting positions known k (Some e) from loads none = event_alike setting positions known k e from loads (none e refl)
-
--- and places what it places
-places_alike : (setting : Setting) (positions : List (Option SymbolPosition)) (standing : PlacedRecords) (s : Option ℕ) (from : Cursors) (records : List Record) (to : Cursors) → LoadWithoutSymbols setting
-    → Places setting standing s from records to → Places (with_positions setting positions) standing s from records to
-places_alike setting positions standing None from records to loads h = h
-places_alike setting positions standing (Some s) from records to loads h =
-    let placed : PlacesSection (with_positions setting positions) s from records to = record { walked = h.placed.walked; resting = h.placed.resting; leaves = h.placed.leaves } in
-    record { placed = placed; load = h.load; given = load_alike setting positions standing s from loads ∙ h.given; loaded = h.loaded }
-
-steps_alike : (setting : Setting) (positions : List (Option SymbolPosition)) (known : Known) (e : OrderEvent) (from : Cursors) (records : List Record) (to : Cursors) → LoadWithoutSymbols setting
-    → moves_by_none e ≡ true → CarriesOut setting known e from records to → CarriesOut (with_positions setting positions) known e from records to
-steps_alike setting positions known e from records to loads none h = record {
-  entered = h.entered;
-  moves = moved_alike setting positions known e from none ∙ h.moves;
-  places = places_alike setting positions known.standing (placed_section e) h.entered records to loads h.places;
-}
-
-passes_alike : (setting : Setting) (positions : List (Option SymbolPosition)) (states : List Cursors) (records : List Record) (k : ℕ) (e : OrderEvent) → LoadWithoutSymbols setting
-    → moves_by_none e ≡ true → Passes setting states records k e → Passes (with_positions setting positions) states records k e
-passes_alike setting positions states records k e loads none h =
-    let known : Known = known_before setting states records k in
-    record {
-      unrefused = event_alike setting positions known k e (state_at states k) loads none ∙ h.unrefused;
-      steps = steps_alike setting positions known e (state_at states k) records (state_at states (k + 1)) loads none h.steps;
-    }
+at_alike setting positions known k (Some e) from loads none = ap (refused k) (event_alike setting positions known e from loads (none e refl))
 
 -- ---- placements
 
@@ -152,9 +127,6 @@ refusal_alike setting positions states records none =
     ap (first_refusal (start setting)) (
     at_alike setting positions (known_before setting states records k) k (slice_get setting.plan.events k) (state_at states k) (loading_none setting none) (λ e there. moving setting.plan k e none there))
 
-before_too : (setting : Setting) (positions : List (Option SymbolPosition)) (n p : ℕ) → IsPlacedBefore setting n p → IsPlacedBefore (with_positions setting positions) n p
-before_too setting positions n p h = record { k = h.k; s = h.s; j = h.j; early = h.early; places = h.places; within = h.within; is = h.is }
-
 -- and is one
 pub placements_alike : PlacementsGoWithoutPositions
 placements_alike setting positions states records none h =
@@ -163,10 +135,11 @@ placements_alike setting positions states records none h =
     let is : IsPlaced other states records = record {
       begins = h.begins;
       within = h.within;
-      steps = λ k e below there. passes_alike setting positions states records k e (loading_none setting none) (moving setting.plan k e none there) (h.steps k e below there);
+      steps = λ k e below there.
+          event_alike setting positions (known_before setting states records k) e (state_at states k) (loading_none setting none) (moving setting.plan k e none there) ∙ h.steps k e below there;
       ends = λ unrefused. h.ends (sym alike ∙ unrefused);
       each = h.each;
-      others = λ p away. h.others p (λ before. away (before_too setting positions (length states - 1) p before));
+      others = h.others;
     } in
     (is, alike)
 

@@ -2,6 +2,7 @@ pub mod Alignments
 pub mod Answers
 pub mod AtHand
 pub mod Base
+pub mod CarriedOut
 pub mod Counters
 pub mod FileRange
 pub mod Hulls

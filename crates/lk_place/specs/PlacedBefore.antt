@@ -33,6 +33,10 @@ is_placing s e = option_map_or (λ t. t == s) (placed_section e) false
 abbrev pub is_placing_part : List PlanSection → ℕ → OrderEvent → Bool
 is_placing_part sections p e = option_map_or (λ t. lies_in (first_part sections t) (part_count sections t) p) (placed_section e) false
 
+-- whether one of the first n events places a section with this part
+abbrev pub is_placed_before : Plan → ℕ → ℕ → Bool
+is_placed_before plan n p = list_any (is_placing_part plan.sections p) (take n plan.events)
+
 -- by their numbers, what sections span and the records of parts, of those that are placed
 pub record PlacedRecords : Type 0 where
   pub section : ℕ → Option Record
@@ -42,7 +46,7 @@ pub record PlacedRecords : Type 0 where
 abbrev pub standing_before : Plan → List Record → ℕ → PlacedRecords
 standing_before plan records n = record {
   section = λ s. if list_any (is_placing s) (take n plan.events) then Some (hull (part_records plan.sections records s)) else None;
-  part = λ p. if list_any (is_placing_part plan.sections p) (take n plan.events) then Some (record_at records p) else None;
+  part = λ p. if is_placed_before plan n p then Some (record_at records p) else None;
 }
 
 -- the section that is placed last before event n, if any is

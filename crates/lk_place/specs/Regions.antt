@@ -30,16 +30,10 @@ valued_region i (Err cause) = Err (Expression (place.Region i) cause)
 abbrev pub region_of : List Region → ℕ → Region → Result (ℕ × ℕ) PlaceError
 region_of regions i r = if is_declared (take i regions) r.name then Err (RegionDuplicate i) else valued_region i (region_value r)
 
--- a value before others, unless there is a refusal
-abbrev pub with_first : {X : Type 0} → Result X PlaceError → Result (List X) PlaceError → Result (List X) PlaceError
-with_first (Err e) rest = Err e
-with_first (Ok x) (Err e) = Err e
-with_first (Ok x) (Ok xs) = Ok (x ∷ xs)
-
 -- what all give that are numbered from here on, or the first refusal
 unfoldable pub all_given : {A X : Type 0} → (ℕ → A → Result X PlaceError) → ℕ → List A → Result (List X) PlaceError
 all_given f i [] = Ok []
-all_given f i (a ∷ later) = with_first (f i a) (all_given f (i + 1) later)
+all_given f i (a ∷ later) = f i a >>= λ x. all_given f (i + 1) later >>= λ xs. Ok (x ∷ xs)
 
 -- origin and length of each region, or the first refusal
 abbrev pub regions_of : List Region → Result (List (ℕ × ℕ)) PlaceError

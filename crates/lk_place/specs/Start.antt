@@ -8,7 +8,7 @@ use Rattle.lk_place.specs.declared.error.PlaceError.TheVariants.{NoMemory}
 use Rattle.lk_place.specs.declared.start.Beginning.{Beginning}
 use Rattle.lk_place.specs.Base.{first_memory, known_first}
 use Rattle.lk_expressions.specs.Constants.{constants_of}
-use Rattle.lk_expressions.specs.Expressions.{Valued, expression_value}
+use Rattle.lk_expressions.specs.Expressions.{Valued, ◌>>=◌, expression_value}
 use Rattle.lk_place.specs.AtHand.{AreAtHand}
 use Rattle.lk_place.specs.Regions.{given_regions, regions_of}
 use Rattle.lk_place.specs.Setting.{Setting}
@@ -26,14 +26,9 @@ base_by plan groups headers regions = expression_value (early_operand (known_fir
 abbrev pub base_value : Setting → Valued
 base_value setting = base_by setting.plan setting.groups setting.headers (given_regions (regions_of setting.plan.regions))
 
--- the first memory by the regions, unless one of them is refused
-abbrev pub memory_by : Plan → List (List InputFile) → ℕ → Result (List (ℕ × ℕ)) PlaceError → Result ℕ PlaceError
-memory_by plan groups headers (Ok regions) = first_memory plan headers (base_by plan groups headers regions)
-memory_by plan groups headers (Err e) = Err e
-
 -- where memory begins: the first refusal of the regions, else what the base gives
 abbrev pub begun_memory : Plan → List (List InputFile) → ℕ → Result ℕ PlaceError
-begun_memory plan groups headers = memory_by plan groups headers (regions_of plan.regions)
+begun_memory plan groups headers = regions_of plan.regions >>= λ regions. first_memory plan headers (base_by plan groups headers regions)
 
 -- the cursors before the first event, where memory begins here: the file begins at 0, nothing is saved, and no location waits
 abbrev pub first_cursors : ℕ → Cursors
@@ -43,14 +38,9 @@ first_cursors memory = record { file = 0; memory = memory; saved = None; pending
 abbrev pub no_cursors : Cursors
 no_cursors = first_cursors 0
 
--- the same, unless memory doesn't begin
-abbrev pub cursors_at : Result ℕ PlaceError → Result Cursors PlaceError
-cursors_at (Ok memory) = Ok (first_cursors memory)
-cursors_at (Err e) = Err e
-
--- where the walk begins
+-- where the walk begins, unless memory doesn't
 abbrev pub start : Setting → Result Cursors PlaceError
-start setting = cursors_at (begun_memory setting.plan setting.groups setting.headers)
+start setting = begun_memory setting.plan setting.groups setting.headers >>= λ memory. Ok (first_cursors memory)
 
 -- states begin there; where that is refused, there are none
 abbrev pub BeginsAt : Result Cursors PlaceError → List Cursors → Type 0

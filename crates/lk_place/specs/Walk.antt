@@ -21,8 +21,8 @@ use Rattle.lk_place.specs.Alignments.{section_alignment, section_alignments, seg
 use Rattle.lk_place.specs.Counters.{told_counter}
 use Rattle.lk_place.specs.InRegions.{named_region, places_in, span_of}
 use Rattle.lk_place.specs.AtHand.{AreAtHand}
-use Rattle.lk_place.specs.Placement.{first_record, first_walked, is_below, load_given, moved, next_record, numbered, overflow_at}
-use Rattle.lk_place.specs.Placement.{record_by, refusal_of, section_left, section_start}
+use Rattle.lk_place.specs.Placement.{first_record, first_walked, is_below, load_given, loaded_by, moved, next_record, numbered, overflow_at, record_by, refusal_of, section_left, section_overflow, section_start, unless}
+use Rattle.lk_expressions.specs.Expressions.{◌>>=◌}
 use Rattle.lk_place.specs.PlacedBefore.{Known, PlacedRecords, last_before, lies_in, standing_before}
 use Rattle.lk_expressions.specs.Records.{Record, nowhere, record_at}
 use Rattle.lk_place.specs.Setting.{IsReady, Setting, part_count, setting_of}
@@ -59,11 +59,6 @@ pub record IsWalkable {P : Type 0} (start : P → ℕ → ℕ → ℕ → ℕ) (
   pub constants : AreAtHand walk.link.now.plan (constants_by walk.link.now.groups walk.unplaced.now.headers walk.unplaced.now.regions.now) walk.unplaced.now.constants.now
   pub section_regions : walk.section_regions.now ≡ map (λ s. named_region walk.link.now.plan.regions s.region) walk.link.now.plan.sections
   pub placed_at : ArePlacedAt walk.link.now.plan (length walk.link.now.plan.events) walk.placed_at.now
-
--- the refusal, if there is one, else what there is
-abbrev pub unless : {X E : Type 0} → Option E → X → Result X E
-unless None x = Ok x
-unless (Some e) x = Err e
 
 -- offsets, unless they are past 2^64 - 1
 abbrev pub fitting : Offsets → Result Offsets Refusal
@@ -104,11 +99,6 @@ abbrev pub all_written : Setting → ℕ → Offsets → ℕ → Record → Reco
 all_written setting s begin p old =
     if lies_in (first_part setting.plan.sections s) (part_count setting.plan.sections s) p then record_by setting s begin p else old
 
--- a record, loaded from this address, if there is one
-abbrev pub loaded_by : Option ℕ → Record → Record
-loaded_by None r = r
-loaded_by (Some address) r = record r { lma_offset = address }
-
 -- what the load address of a section makes of the record of part p
 abbrev pub all_loaded : Setting → ℕ → Option ℕ → ℕ → Record → Record
 all_loaded setting s load p old = if lies_in (first_part setting.plan.sections s) (part_count setting.plan.sections s) p then loaded_by load old else old
@@ -122,6 +112,10 @@ load_or_none (Err refusal) = None
 abbrev pub load_of : Setting → PlacedRecords → ℕ → Cursors → Option ℕ
 load_of setting standing s from = load_or_none (load_given setting standing s from)
 
+-- the cursors behind a section that is placed from the cursors on, and loaded
+abbrev pub left_loaded : Setting → PlacedRecords → ℕ → Cursors → Result Cursors Refusal
+left_loaded setting standing s from = unless (section_overflow setting s from) (section_left setting s from) >>= λ to. load_given setting standing s from >>= λ load. Ok to
+
 -- what a section makes of it: it is written, and loaded
 unfoldable pub rewritten : Setting → PlacedRecords → Option ℕ → Cursors → ℕ → Record → Record
 rewritten setting standing None from p old = old
@@ -133,6 +127,11 @@ left_behind setting None from = from
 left_behind setting (Some s) from = section_left setting s from
 
 -- ---- one event
+
+-- the cursors that an event gives
+abbrev pub cursors_of : Result (Cursors × List Record) Refusal → Result Cursors Refusal
+cursors_of (Ok given) = Ok given.0
+cursors_of (Err refusal) = Err refusal
 
 -- the cursors after a move, those before it where it is refused
 abbrev pub after_move : Cursors → Result Cursors Refusal → Cursors

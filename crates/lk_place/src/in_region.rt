@@ -7,7 +7,8 @@ ghost use Rattle.std.specs.Prelude.{◌≡◌, ℕ, length, slice_get, unwrap_or
 ghost use Rattle.std.specs.List.{slice_index};
 ghost use Rattle.lk_place.specs.declared.regions.SectionRegion.TheVariants.{Free};
 ghost use Rattle.lk_place.specs.InRegions.{IsAmong, in_region, inside_region, is_within, lies_outside, past_end, past_region, span_of, stands_in};
-ghost use Rattle.lk_place.specs.Walk.{IsWalkable, setting_in, unless};
+ghost use Rattle.lk_place.specs.Walk.{IsWalkable, setting_in};
+ghost use Rattle.lk_place.specs.Placement.{unless};
 
 use crate::cursors::Cursors;
 use crate::error::Refusal;

@@ -1,5 +1,6 @@
 //! Laws of placement, each proved as the contract of a function that does nothing. More stand in lk_place_laws.
 
+ghost use Rattle.lk_place.specs.CarriedOut.{EventsAreCarriedOut, OthersAreNowhere};
 ghost use Rattle.lk_place.specs.Laws.{FileRangesAreDisjoint};
 ghost use Rattle.lk_place.specs.PlacementLaws.{PartsTakeTheirBytes, PlacementExists, PlacementIsOne};
 ghost use Rattle.lk_place.specs.PositionLaws.{AnswersGoWithoutPositions, PlacementsGoWithoutPositions};
@@ -15,6 +16,18 @@ pub fn placement_exists()
 /// A law: there is one placement alone.
 pub fn placement_is_one()
     ensures { PlacementIsOne }
+{}
+
+/// A law: each event before the last state moves the cursors, and then places its section, if it has one: walked parts stand one
+/// behind the other, each at the least multiple of its alignment at or above the offsets, the others rest where the first walked one
+/// starts, all end below 2^64 and inside the section's region, and are loaded from its load address, or from where they stand.
+pub fn events_are_carried_out()
+    ensures { EventsAreCarriedOut }
+{}
+
+/// A law: a part that no event before the last state places is nowhere.
+pub fn others_are_nowhere()
+    ensures { OthersAreNowhere }
 {}
 
 /// A law: where no expression of a walk names a symbol, a placement is one wherever symbols stand, and is refused alike.

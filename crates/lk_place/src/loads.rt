@@ -9,9 +9,9 @@ ghost use Rattle.lk_link.specs.Parts.{all_parts};
 ghost use Rattle.lk_link.specs.PlanSections.{section_at};
 ghost use Rattle.lk_place.specs.AtHand.{AreEvaluableLoads};
 ghost use Rattle.lk_place.specs.PlacedBefore.{lies_in, standing_before};
-ghost use Rattle.lk_place.specs.Placement.{load_by, loading, placing_refusal, section_left};
+ghost use Rattle.lk_place.specs.Placement.{load_by, loaded_by, loading};
 ghost use Rattle.lk_expressions.specs.Records.{record_at};
-ghost use Rattle.lk_place.specs.Walk.{IsWalkable, Rewrites, all_loaded, loaded_by, rewritten, setting_in, unless};
+ghost use Rattle.lk_place.specs.Walk.{IsWalkable, Rewrites, all_loaded, left_loaded, rewritten, setting_in};
 
 use crate::cursors::Cursors;
 use crate::error::Refusal;
@@ -122,7 +122,7 @@ impl<P: Platform> Walk<'_, P> {
         requires each { length records.old ≡ length (all_parts self.now.link.now.plan.sections) }
         requires loads { AreEvaluableLoads self.now.link.now.plan }
         ensures ends { let setting = setting_in P.segment_start self.now in let standing = standing_before setting.plan records.old event
-            in result ≡ unless (placing_refusal setting standing section from) (section_left setting section from) }
+            in result ≡ left_loaded setting standing section from }
         ensures records { let setting = setting_in P.segment_start self.now in let standing = standing_before setting.plan records.old event
             in OnOk result (Rewrites (rewritten setting standing (Some section) from) records.old records.new) }
     {

@@ -9,9 +9,9 @@ ghost use Rattle.lk_link.specs.Alignments.{is_alignment};
 ghost use Rattle.lk_link.specs.Parts.{all_parts, part_at};
 ghost use Rattle.lk_place.specs.Alignments.{section_alignment};
 ghost use Rattle.lk_place.specs.Placement.{behind, first_walked, is_below, is_walked, next_end, overflow_at, placed_at};
-ghost use Rattle.lk_place.specs.Placement.{resting, section_end, section_left, section_overflow, section_start, walk_alignment};
+ghost use Rattle.lk_place.specs.Placement.{resting, section_end, section_left, section_overflow, section_start, unless, walk_alignment};
 ghost use Rattle.lk_place.specs.Setting.{size_at, takes_addresses};
-ghost use Rattle.lk_place.specs.Walk.{IsPlacing, IsWalkable, Rewrites, all_written, fitting, one_written, setting_in, unless};
+ghost use Rattle.lk_place.specs.Walk.{IsPlacing, IsWalkable, Rewrites, all_written, fitting, one_written, setting_in};
 
 use crate::cursors::{Cursors, Offsets};
 use crate::error::Refusal;

@@ -22,7 +22,7 @@ ghost use Rattle.std.specs.Option.{option_map_or};
 ghost use Rattle.lk_place.specs.InRegions.{span_of};
 ghost use Rattle.lk_place.specs.Locations.{behind_start, within_64};
 ghost use Rattle.lk_place.specs.PlacedBefore.{early_value, last_before, standing_before, value_at};
-ghost use Rattle.lk_place.specs.Placement.{begun_section, event_refusal, memory_moved, moved, numbered, opened, section_refusal};
+ghost use Rattle.lk_place.specs.Placement.{begun_section, carried_out, memory_moved, moved, numbered, opened, placed_by};
 ghost use Rattle.lk_expressions.specs.Records.{nowhere, record_at};
 ghost use Rattle.lk_place.specs.Setting.{setting_of};
 ghost use Rattle.lk_place.specs.Start.{first_cursors, start};
@@ -30,7 +30,7 @@ ghost use Rattle.lk_place.specs.ThreadLocal.{begins_run, free_memory, is_in_run,
 ghost use Rattle.lk_link.specs.PlanSections.{is_thread_local, primary_of};
 ghost use Rattle.lk_link.specs.SegmentKinds.{is_load, segment_at};
 ghost use Rattle.lk_place.specs.Walk.{GivesWalked, GoesOn, IsWalkable, Rewrites, known_in, left_behind, recorded, setting_in, left_by};
-ghost use Rattle.lk_place.specs.Walk.{at_event, rewritten, unless};
+ghost use Rattle.lk_place.specs.Walk.{at_event, cursors_of, rewritten};
 
 use crate::alignments::{Alignments, compute_alignments};
 use crate::cursors::Cursors;
@@ -362,7 +362,7 @@ impl<P: Platform> Walk<'_, P> {
         requires regions { length goes_on.old ≡ length self.now.link.now.plan.regions }
         requires loads { AreEvaluableLoads self.now.link.now.plan }
         ensures ends { let setting = setting_in P.segment_start self.now in let s = placed_section event.now
-            in result ≡ unless (section_refusal setting (standing_before setting.plan records.old number) s from) (left_behind setting s from) }
+            in result ≡ cursors_of (placed_by setting (standing_before setting.plan records.old number) s from) }
         ensures records { let setting = setting_in P.segment_start self.now
             in OnOk result (Rewrites (rewritten setting (standing_before setting.plan records.old number) (placed_section event.now) from) records.old records.new) }
         ensures goes_on { let setting = setting_in P.segment_start self.now
@@ -397,7 +397,7 @@ impl<P: Platform> Walk<'_, P> {
         requires walked { IsEvaluableEvent self.now.link.now.plan event.now }
         requires loads { AreEvaluableLoads self.now.link.now.plan }
         ensures ends { let setting = setting_in P.segment_start self.now in let known = known_in setting.plan records.old goes_on.old number
-            in result ≡ unless (event_refusal setting known event.now from) (left_by setting known (Some event.now) from) }
+            in result ≡ cursors_of (carried_out setting known event.now from) }
         ensures records { let setting = setting_in P.segment_start self.now in let known = known_in setting.plan records.old goes_on.old number
             in OnOk result (Rewrites (recorded setting known (Some event.now) from) records.old records.new) }
         ensures goes_on { let setting = setting_in P.segment_start self.now in let known = known_in setting.plan records.old goes_on.old number

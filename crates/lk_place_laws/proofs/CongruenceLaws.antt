@@ -15,7 +15,8 @@ use Rattle.lk_place.specs.declared.cursors.Cursors.{Cursors}
 use Rattle.lk_place.specs.Alignments.{place_alignment}
 use Rattle.lk_place_laws.specs.Laws.{IsSoundlySet, PlainMemoryIsCongruent}
 use Rattle.lk_place.specs.PlacedBefore.{Known, PlacedRecords}
-use Rattle.lk_place.specs.Placement.{known_before, Places, PlacesSection, CarriesOut, moved, state_at}
+use Rattle.lk_place.specs.Placement.{known_before, moved, state_at}
+use Rattle.lk_place.specs.CarriedOut.{Places, PlacesSection, CarriesOut}
 use Rattle.lk_place.specs.Plain.{IsLoadSegment, IsPlain, OpensLoad, PlacesInLoad}
 use Rattle.lk_place.specs.Ranges.{HasPart}
 use Rattle.lk_expressions.specs.Records.{Record, nowhere, record_at}
@@ -23,6 +24,7 @@ use Rattle.lk_place.specs.Setting.{Setting, part_count, part_number}
 use Rattle.lk_place.specs.ThreadLocal.{free_memory}
 use Rattle.lk_place_laws.proofs.PlaceAlignments.{place_aligned, place_reaches}
 use Rattle.lk_place.proofs.ApartLaws.{section_one}
+use Rattle.lk_place.proofs.PartEvents.{others_are_nowhere}
 use Rattle.lk_place_laws.proofs.MemoryApart.{placed_of}
 use Rattle.lk_place_laws.proofs.Congruent.{CursorsAgree, FreeAgrees, KeepsAgreement, StartsAgree, more_agrees, part_starts, section_leaves, unbacked_leaves}
 use Rattle.lk_place.proofs.Insides.{placed_in_range}
@@ -157,8 +159,8 @@ open_agrees setting states records i s k t (suc n) le opened =
     let event = event_at setting states records n t.set.placed early in
     let e : OrderEvent = event.0 in
     let known : Known = known_before setting states records n in
-    let quiet : (state_at states n).pending ≡ None = never_waits setting states records t.set.placed (plain_plan setting.plan setting.output t.plain) n (omega arith) in
-    let step : CarriesOut setting known e (state_at states n) records (state_at states (n + 1)) = step_at setting states records n e t.set.placed early event.1 in
+    let quiet : (state_at states n).pending ≡ None = never_waits setting states records t.set.ready t.set.placed (plain_plan setting.plan setting.output t.plain) n (omega arith) in
+    let step : CarriesOut setting known e (state_at states n) records (state_at states (n + 1)) = step_at setting states records n e t.set.ready t.set.placed early event.1 in
     let agrees : FreeAgrees place (state_at states (n + 1))
     = elim (is_start i e) as (λ b. is_start i e ≡ b → FreeAgrees place (state_at states (n + 1))) [
       | true ↦ λ is.
@@ -181,8 +183,8 @@ placed_agree setting states records i s k j t below =
     let from : Cursors = state_at states k in
     let agrees : FreeAgrees place from = open_agrees setting states records i s k t k (omega arith) t.places.places.inside in
     let known : Known = known_before setting states records k in
-    let quiet : from.pending ≡ None = never_waits setting states records t.set.placed (plain_plan setting.plan setting.output t.plain) k (omega (arith, t.early)) in
-    let step : CarriesOut setting known (Section s) from records (state_at states (k + 1)) = step_at setting states records k (Section s) t.set.placed t.early t.places.places.here in
+    let quiet : from.pending ≡ None = never_waits setting states records t.set.ready t.set.placed (plain_plan setting.plan setting.output t.plain) k (omega (arith, t.early)) in
+    let step : CarriesOut setting known (Section s) from records (state_at states (k + 1)) = step_at setting states records k (Section s) t.set.ready t.set.placed t.early t.places.places.here in
     let begun = enters setting known s from step.entered (plain_plan setting.plan setting.output t.plain).free quiet step.moves in
     let filled : is_zero_fill_thread_local setting.plan s ≡ false = elim (cases_Bool (is_zero_fill_thread_local setting.plan s)) [
       | inl fills ↦ let unbacked = t.plain.zero_fill i s k t.places fills in absurd (cc)
@@ -195,7 +197,7 @@ placed_agree setting states records i s k j t below =
 unplaced : (setting : Setting) (states : List Cursors) (records : List Record) (s k p : ℕ) → IsSoundlySet setting states records
     → slice_get setting.plan.events k ≡ Some (Section s) → HasPart setting.plan s p → (k < length states - 1 → ⊥) → record_at records p ≡ nowhere
 unplaced setting states records s k p set here part late =
-    set.placed.others p (λ a.
+    others_are_nowhere setting states records set.placed p (λ a.
     let section : a.s ≡ s = section_one setting.plan a.s s p (placed_of setting (length states - 1) p set.ready a) part in
     let event : slice_get setting.plan.events a.k ≡ Some (Section s) = a.places ∙ ap (λ n. Some (Section n)) section in
     let same : a.k ≡ k = set.ready.events.once a.k k (Section s) tt event here in

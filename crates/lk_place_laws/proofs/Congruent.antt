@@ -10,7 +10,8 @@ use Rattle.lk_link.proofs.Starts.{next_multiple_is_least}
 use Rattle.lk_place.specs.declared.cursors.Cursors.{Cursors}
 use Rattle.lk_place.specs.declared.cursors.Offsets.{Offsets}
 use Rattle.lk_place.specs.Alignments.{section_alignment}
-use Rattle.lk_place.specs.Placement.{IsPlacedAt, PlacesSection, behind, first_walked, is_walked, reached, section_start, walk_alignment}
+use Rattle.lk_place.specs.Placement.{behind, first_walked, is_walked, section_start, walk_alignment}
+use Rattle.lk_place.specs.CarriedOut.{IsPlacedAt, PlacesSection, reached}
 use Rattle.lk_expressions.specs.Records.{Record, record_at}
 use Rattle.lk_place.specs.Setting.{IsReady, Setting, part_count, part_number, size_at, takes_addresses}
 use Rattle.lk_place.specs.ThreadLocal.{free_memory}

@@ -22,13 +22,15 @@ use Rattle.lk_place.specs.Alignments.{place_alignment, section_alignment}
 use Rattle.lk_place_laws.specs.Distance.{HasFileBytesIn, PlainMemoryKeepsDistance}
 use Rattle.lk_place_laws.specs.Laws.{IsSoundlySet}
 use Rattle.lk_place.specs.PlacedBefore.{Known, PlacedRecords}
-use Rattle.lk_place.specs.Placement.{IsPlacedAt, Places, PlacesSection, CarriesOut, behind, first_walked, is_walked, known_before, moved, reached, section_start, state_at, walk_alignment}
+use Rattle.lk_place.specs.Placement.{behind, first_walked, is_walked, known_before, moved, section_start, state_at, walk_alignment}
+use Rattle.lk_place.specs.CarriedOut.{IsPlacedAt, Places, PlacesSection, CarriesOut, reached}
 use Rattle.lk_place.specs.Plain.{IsPlain, OpensLoad, PlacesInLoad}
 use Rattle.lk_expressions.specs.Records.{Record, file_end, has_file_bytes, mem_end, nowhere, record_at}
 use Rattle.lk_place.specs.Setting.{IsReady, Setting, part_count, part_number, size_at, takes_addresses}
 use Rattle.lk_place.specs.ThreadLocal.{free_memory}
 use Rattle.lk_place_laws.proofs.PlaceAlignments.{place_aligned, place_reaches}
 use Rattle.lk_place.proofs.ApartLaws.{section_one}
+use Rattle.lk_place.proofs.PartEvents.{others_are_nowhere}
 use Rattle.lk_place_laws.proofs.MemoryApart.{placed_of}
 use Rattle.lk_place.proofs.WalkedAlignments.{walk_aligned}
 use Rattle.lk_place_laws.proofs.Congruent.{OffsetsAgree, unbacked_leaves}
@@ -193,8 +195,8 @@ base_agrees setting states records i s k o t opens less =
     let from : Cursors = state_at states o in
     let to : Cursors = state_at states (o + 1) in
     let known : Known = known_before setting states records o in
-    let quiet : from.pending ≡ None = never_waits setting states records t.set.placed (plain_plan setting.plan setting.output t.plain) o (omega (arith, t.early)) in
-    let step : CarriesOut setting known (SegmentStart i) from records to = step_at setting states records o (SegmentStart i) t.set.placed (omega (arith, t.early)) opens.here in
+    let quiet : from.pending ≡ None = never_waits setting states records t.set.ready t.set.placed (plain_plan setting.plan setting.output t.plain) o (omega (arith, t.early)) in
+    let step : CarriesOut setting known (SegmentStart i) from records to = step_at setting states records o (SegmentStart i) t.set.ready t.set.placed (omega (arith, t.early)) opens.here in
     let there = opens_load setting known i from step.entered quiet opens.load step.moves in
     let none : to.saved ≡ None = ap (λ (c : Cursors). c.saved) step.places ∙ there.2 in
     ap (λ (o : Option ℕ). unwrap_or o to.memory % place) none
@@ -308,8 +310,8 @@ along_since setting states records i s k t (suc n) le opened =
     let event = event_at setting states records n t.set.placed early in
     let e : OrderEvent = event.0 in
     let known : Known = known_before setting states records n in
-    let quiet : (state_at states n).pending ≡ None = never_waits setting states records t.set.placed (plain_plan setting.plan setting.output t.plain) n (omega arith) in
-    let step : CarriesOut setting known e (state_at states n) records (state_at states (n + 1)) = step_at setting states records n e t.set.placed early event.1 in
+    let quiet : (state_at states n).pending ≡ None = never_waits setting states records t.set.ready t.set.placed (plain_plan setting.plan setting.output t.plain) n (omega arith) in
+    let step : CarriesOut setting known e (state_at states n) records (state_at states (n + 1)) = step_at setting states records n e t.set.ready t.set.placed early event.1 in
     let along : IsAlongSince setting states i (n + 1)
     = elim (is_start i e) as (λ b. is_start i e ≡ b → IsAlongSince setting states i (n + 1)) [
       | true ↦ λ is. record {
@@ -345,8 +347,8 @@ section_along setting states records i s k t =
     let since : IsAlongSince setting states i k = along_since setting states records i s k t k (omega arith) t.places.places.inside in
     let base : Offsets = base_at states since.o in
     let known : Known = known_before setting states records k in
-    let quiet : from.pending ≡ None = never_waits setting states records t.set.placed (plain_plan setting.plan setting.output t.plain) k (omega (arith, t.early)) in
-    let step : CarriesOut setting known (Section s) from records (state_at states (k + 1)) = step_at setting states records k (Section s) t.set.placed t.early t.places.places.here in
+    let quiet : from.pending ≡ None = never_waits setting states records t.set.ready t.set.placed (plain_plan setting.plan setting.output t.plain) k (omega (arith, t.early)) in
+    let step : CarriesOut setting known (Section s) from records (state_at states (k + 1)) = step_at setting states records k (Section s) t.set.ready t.set.placed t.early t.places.places.here in
     let begun = enters setting known s from step.entered (plain_plan setting.plan setting.output t.plain).free quiet step.moves in
     let filled : is_zero_fill_thread_local setting.plan s ≡ false = elim (cases_Bool (is_zero_fill_thread_local setting.plan s)) [
       | inl fills ↦ let unbacked = t.plain.zero_fill i s k t.places fills in absurd (cc)
@@ -368,7 +370,7 @@ placed_early setting states records i p set h =
     elim (cases_lt h.k (length states - 1)) [
       | inl early ↦ early
       | inr late ↦
-          let none : record_at records p ≡ nowhere = set.placed.others p (λ a.
+          let none : record_at records p ≡ nowhere = others_are_nowhere setting states records set.placed p (λ a.
           let section : a.s ≡ h.s = section_one setting.plan a.s h.s p (placed_of setting (length states - 1) p set.ready a) h.part in
           let event : slice_get setting.plan.events a.k ≡ Some (Section h.s) = a.places ∙ ap (λ n. Some (Section n)) section in
           let same : a.k ≡ h.k = set.ready.events.once a.k h.k (Section h.s) tt event h.places.places.here in
@@ -384,7 +386,7 @@ section_backed setting states records i s k j set places early below bytes =
     elim (cases_Bool (is_file_backed setting.plan s)) [
       | inl backed ↦ backed
       | inr unbacked ↦
-          let step = step_at setting states records k (Section s) set.placed early places.places.here in
+          let step = step_at setting states records k (Section s) set.ready set.placed early places.places.here in
           let size = unbacked_size setting s j step.entered (state_at states (k + 1)) records unbacked step.places.placed below in
           let none : nat_lt 0 0 ≡ true = ap (nat_lt 0) (sym size) ∙ bytes in
           absurd (cc)

@@ -18,7 +18,8 @@ use Rattle.lk_link.proofs.PartNumbers.{first_part-le, first_part-suc}
 use Rattle.lk_place.specs.declared.cursors.Cursors.{Cursors}
 use Rattle.lk_place.specs.Alignments.{greatest_alignment, greatest_of, numbered_parts, section_alignment}
 use Rattle.lk_place_laws.specs.Laws.{RecordsKeepAlignments}
-use Rattle.lk_place.specs.Placement.{IsPlaced, PlacesSection, first_walked, is_walked, state_at}
+use Rattle.lk_place.specs.Placement.{IsPlaced, first_walked, is_walked, state_at}
+use Rattle.lk_place.specs.CarriedOut.{PlacesSection}
 use Rattle.lk_expressions.specs.Records.{Record, is_filled, nowhere, record_at}
 use Rattle.lk_place.specs.Segments.{part_records, section_record, section_records}
 use Rattle.lk_place.specs.Setting.{IsReady, Setting, has_bytes, part_count, part_number}
@@ -167,7 +168,7 @@ each_keeps setting states records ready is whole s below =
     let sections : List PlanSection = setting.plan.sections in
     let event = ready.events.placed s below in
     let early : event.0 < length states - 1 = omega (arith, whole, slice_get_within setting.plan.events event.0 (Section s) event.1) in
-    let step = step_at setting states records event.0 (Section s) is early event.1 in
+    let step = step_at setting states records event.0 (Section s) ready is early event.1 in
     let there : record_at (section_records sections records) s ≡ section_record (section_at sections s) (part_records sections records s)
     = record_of (λ q. section_record q.1 (part_records sections records q.0)) sections 0 s below ∙ ap (λ n. section_record (section_at sections s) (part_records sections records n)) (zero-add s) in
     ap (λ (r : Record). r.alignment) there ∙ section_keeps setting s step.entered (state_at states (event.0 + 1)) records is.each below step.places.placed

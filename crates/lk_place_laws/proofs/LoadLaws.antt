@@ -20,7 +20,8 @@ use Rattle.lk_place.specs.declared.error.Refusal.{Refusal}
 use Rattle.lk_expressions.specs.declared.positions.SymbolPosition.{SymbolPosition}
 use Rattle.lk_expressions.specs.Expressions.{Valued, expression_value}
 use Rattle.lk_place.specs.PlacedBefore.{PlacedRecords, dot_of, early_known, early_value, is_placing, is_placing_part, lies_in, standing_before}
-use Rattle.lk_place.specs.Placement.{PlacesSection, load_by, loading, record_by, records_by, section_left, section_start, standing_with}
+use Rattle.lk_place.specs.Placement.{load_by, loading, record_by, records_by, section_left, section_start, standing_with}
+use Rattle.lk_place.specs.CarriedOut.{PlacesSection}
 use Rattle.lk_place_laws.specs.PlacementLaws.{LoadsGoByWhatStands}
 use Rattle.lk_expressions.specs.Records.{Record, file_end, mem_end, nowhere, record_at}
 use Rattle.lk_place.specs.Segments.{greatest, hull, least, part_records}
@@ -29,7 +30,8 @@ use Rattle.lk_expressions.specs.Surroundings.{Early, address_of, early_operand, 
 use Rattle.lk_place.specs.Walk.{Rewrites, all_written}
 use Rattle.lk_place.proofs.Loading.{standing_behind}
 use Rattle.lk_place.proofs.PlacedSections.{places_makes, unloaded}
-use Rattle.lk_place.proofs.WalkRecords.{among_is, section_there}
+use Rattle.lk_place.proofs.WalkRecords.{section_there}
+use Rattle.lk_place.proofs.PartEvents.{among_is}
 
 -- ---- expressions read nothing of where something is loaded
 

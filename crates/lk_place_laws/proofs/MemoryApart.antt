@@ -6,7 +6,8 @@ use Rattle.lk_link.specs.PlanSections.{has_memory}
 use Rattle.lk_link.proofs.PartNumbers.{first_part-suc}
 use Rattle.lk_place.specs.declared.cursors.Cursors.{Cursors}
 use Rattle.lk_place_laws.specs.Laws.{IsSoundlySet, MemoryRangesAreDisjoint, PlainMemoryIsDisjoint}
-use Rattle.lk_place.specs.Placement.{IsPlacedBefore, state_at}
+use Rattle.lk_place.specs.Placement.{state_at}
+use Rattle.lk_place.specs.CarriedOut.{IsPlacedBefore}
 use Rattle.lk_place.specs.Ranges.{HasPart}
 use Rattle.lk_place_laws.specs.MemoryRanges.{MemoryIsDisjoint, TakesMemory}
 use Rattle.lk_expressions.specs.Records.{Record, mem_end}

@@ -23,12 +23,14 @@ use Rattle.lk_place.specs.Alignments.{place_alignment}
 use Rattle.lk_place.specs.InRegions.{named_region, numbered_region, stands_in}
 use Rattle.lk_place_laws.specs.Laws.{IsSoundlySet}
 use Rattle.lk_place.specs.PlacedBefore.{Known, PlacedRecords}
-use Rattle.lk_place.specs.Placement.{IsPlaced, known_before, Places, PlacesSection, moved, reached, section_start, state_at}
+use Rattle.lk_place.specs.Placement.{IsPlaced, known_before, moved, section_start, state_at}
+use Rattle.lk_place.specs.CarriedOut.{Places, PlacesSection, reached}
 use Rattle.lk_place.specs.Plain.{IsPlain}
 use Rattle.lk_place_laws.specs.Plans.{IsUnmoved}
 use Rattle.lk_expressions.specs.Records.{Record, mem_end}
-use Rattle.lk_place.specs.Setting.{Setting, part_count, takes_addresses}
-use Rattle.lk_place.specs.Start.{BeginsAt, begun_memory, cursors_at, first_cursors, no_cursors, start}
+use Rattle.lk_place.specs.Setting.{IsReady, Setting, part_count, takes_addresses}
+use Rattle.lk_expressions.specs.Expressions.{◌>>=◌}
+use Rattle.lk_place.specs.Start.{BeginsAt, begun_memory, first_cursors, no_cursors, start}
 use Rattle.lk_place.specs.ThreadLocal.{free_memory}
 use Rattle.lk_place.specs.Walk.{first_state}
 use Rattle.lk_place_laws.proofs.PlaceAlignments.{place_aligned}
@@ -57,7 +59,7 @@ unmoved_plan plan kind may =
 pub plain_plan : (plan : Plan) (kind : OutputKind) → IsPlain plan kind → MovesNothing plan
 plain_plan plan kind plain = record { events = plain.unmoved; free = λ s r h. no_region plan.regions (section_at plan.sections s).region r plain.regions h }
 
-waits_first : (r : Result ℕ PlaceError) (c : Cursors) → cursors_at r ≡ Ok c → c.pending ≡ None
+waits_first : (r : Result ℕ PlaceError) (c : Cursors) → (r >>= λ memory. Ok (first_cursors memory)) ≡ Ok c → c.pending ≡ None
 waits_first (Ok memory) c h = let same : first_cursors memory ≡ c = cc in sym (ap (λ (d : Cursors). d.pending) same)
 waits_first (Err e) c h = absurd (cc)
 
@@ -73,13 +75,13 @@ places_quietly setting standing None entered to records h = ap (λ (c : Cursors)
 places_quietly setting standing (Some s) entered to records h = ap (λ (c : Cursors). c.pending) h.placed.leaves
 
 -- where nothing moves the location, none ever waits
-pub never_waits : (setting : Setting) (states : List Cursors) (records : List Record) → IsPlaced setting states records → MovesNothing setting.plan
+pub never_waits : (setting : Setting) (states : List Cursors) (records : List Record) → IsReady setting → IsPlaced setting states records → MovesNothing setting.plan
     → (k : ℕ) → k < length states → (state_at states k).pending ≡ None
-never_waits setting states records is unmoved zero less = nothing_first setting states is.begins less
-never_waits setting states records is unmoved (suc k) less =
+never_waits setting states records ready is unmoved zero less = nothing_first setting states is.begins less
+never_waits setting states records ready is unmoved (suc k) less =
     let event = event_at setting states records k is (omega arith) in
-    let step = step_at setting states records k event.0 is (omega arith) event.1 in
-    let before : (state_at states k).pending ≡ None = never_waits setting states records is unmoved k (omega arith) in
+    let step = step_at setting states records k event.0 ready is (omega arith) event.1 in
+    let before : (state_at states k).pending ≡ None = never_waits setting states records ready is unmoved k (omega arith) in
     ap (λ (n : ℕ). (state_at states n).pending) (sym (add-one k))
     ∙ places_quietly setting (known_before setting states records k).standing (placed_section event.0) step.entered (state_at states (k + 1)) records step.places
     ∙ stays_quiet setting (known_before setting states records k) event.0 (state_at states k) step.entered unmoved.free (unmoved.events k event.0 event.1) before step.moves
@@ -150,11 +152,11 @@ pub memory_rises : (setting : Setting) (states : List Cursors) (records : List R
     → (k : ℕ) → k < length states - 1 → free_memory (state_at states k) ≤ free_memory (state_at states (k + 1))
 memory_rises setting states records set unmoved k less =
     let event = event_at setting states records k set.placed less in
-    let step = step_at setting states records k event.0 set.placed less event.1 in
+    let step = step_at setting states records k event.0 set.ready set.placed less event.1 in
     omega (
       arith,
       entered_free setting states records set (known_before setting states records k) event.0 (state_at states k) step.entered unmoved.free (unmoved.events k event.0 event.1)
-          (never_waits setting states records set.placed unmoved k (omega arith)) step.moves,
+          (never_waits setting states records set.ready set.placed unmoved k (omega arith)) step.moves,
       places_in_memory setting (known_before setting states records k).standing (placed_section event.0) step.entered (state_at states (k + 1)) records step.places,
     )
 
@@ -163,11 +165,11 @@ pub memory_follows : (setting : Setting) (states : List Cursors) (records : List
     → (k s : ℕ) → k < length states - 1 → slice_get setting.plan.events k ≡ Some (Section s) → has_memory setting.plan s ≡ true
     → FollowInMemory setting records s (free_memory (state_at states k)) (free_memory (state_at states (k + 1)))
 memory_follows setting states records set unmoved whole k s less here memory =
-    let step = step_at setting states records k (Section s) set.placed less here in
+    let step = step_at setting states records k (Section s) set.ready set.placed less here in
     let has = and_parts (is_allocated setting.plan s) _ memory in
     let from : Cursors = state_at states k in
     let to : Cursors = state_at states (k + 1) in
-    let quiet : from.pending ≡ None = never_waits setting states records set.placed unmoved k (omega arith) in
+    let quiet : from.pending ≡ None = never_waits setting states records set.ready set.placed unmoved k (omega arith) in
     let taken = (enters setting (known_before setting states records k) s from step.entered unmoved.free quiet step.moves).taken (not-true (is_zero_fill_thread_local setting.plan s) has.1) in
     let places : PlacesSection setting s step.entered records to = step.places.placed in
     let unsaved : to.saved ≡ None = ap (λ (c : Cursors). c.saved) places.leaves ∙ taken.1 in

@@ -2,15 +2,14 @@
 use Rattle.std.proofs.Common.{◌≡◌, ℕ, zero, suc, ◌<◌, Bool, true, false, cond, Some, None, refl, sym, ap, subst, ◌∙◌, arith, inl, inr}
 use Rattle.std.proofs.lemmas.Bool.{cases_Bool, cases_lt}
 use Rattle.std.proofs.lemmas.Bool.Decides.{nat_tests}
-use Rattle.lk_link.specs.PlanSections.{is_file_backed}
 use Rattle.lk_link.specs.Parts.{part_at}
 use Rattle.lk_place.specs.declared.cursors.Offsets.{Offsets}
 use Rattle.lk_place.specs.declared.error.Refusal.TheVariants.{Overflow}
-use Rattle.lk_place.specs.Placement.{IsRestingAt, behind, end_behind, first_walked, is_below, is_walked, overflow_at, pushed, section_end, section_start, walk_alignment}
+use Rattle.lk_place.specs.Placement.{behind, end_behind, first_walked, is_below, is_walked, overflow_at, section_end, section_start}
+use Rattle.lk_place.specs.CarriedOut.{IsRestingAt}
 use Rattle.lk_place_laws.specs.PlacementLaws.{RefusedExactlyPast}
 use Rattle.lk_expressions.specs.Records.{Fits, Record, record_at}
-use Rattle.lk_place.specs.Setting.{Setting, part_count, part_number, size_at}
-use Rattle.lk_place.proofs.PlacedParts.{behind_placed}
+use Rattle.lk_place.specs.Setting.{Setting, part_count, part_number}
 use Rattle.lk_place.proofs.PlacedSections.{by_walked, place_walked, places_makes, unloaded, walked_record}
 use Rattle.lk_place.proofs.SectionEnds.{IsFirstWalked, below_too, ends_rise, first_walked_place}
 
@@ -26,10 +25,7 @@ fits_below r h = grind (arith, nat_tests, h.file, h.mem)
 -- a walked part ends where the cursors behind it are
 walked_end : (setting : Setting) (s j : ℕ) (begin : Offsets) → is_walked setting s (part_number setting.plan.sections s j) ≡ true → behind (walked_record setting s begin j) ≡ end_behind setting s begin (suc j)
 walked_end setting s j begin walked =
-    let p : ℕ = part_number setting.plan.sections s j in
-    let before : Offsets = end_behind setting s begin j in
-    let next : Offsets = pushed (is_file_backed setting.plan s) (walk_alignment setting s p) (size_at setting.sizes p) before in
-    behind_placed (is_file_backed setting.plan s) (walk_alignment setting s p) (size_at setting.sizes p) before ∙ ap (λ (b : Bool). cond b next before) (sym walked)
+    ap (λ (b : Bool). cond b (behind (walked_record setting s begin j)) (end_behind setting s begin j)) (sym walked)
 
 -- the cursors behind some parts, the first walked one among them, are those behind a walked one
 last_walked : (setting : Setting) (s i : ℕ) (begin : Offsets) → IsFirstWalked setting s i → (n : ℕ) → i < n
@@ -38,7 +34,7 @@ last_walked setting s i begin first zero less = absurd (omega arith)
 last_walked setting s i begin first (suc n) less =
     let p : ℕ = part_number setting.plan.sections s n in
     let before : Offsets = end_behind setting s begin n in
-    let next : Offsets = pushed (is_file_backed setting.plan s) (walk_alignment setting s p) (size_at setting.sizes p) before in
+    let next : Offsets = behind (walked_record setting s begin n) in
     elim (cases_Bool (is_walked setting s p)) [
       | inl walked ↦ (n, omega arith, walked, sym (walked_end setting s n begin walked))
       | inr rests ↦ elim (cases_lt i n) [

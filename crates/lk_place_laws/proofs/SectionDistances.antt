@@ -14,13 +14,15 @@ use Rattle.lk_place.specs.declared.cursors.Cursors.{Cursors}
 use Rattle.lk_place.specs.declared.cursors.Offsets.{Offsets}
 use Rattle.lk_place_laws.specs.Distance.{AreEquallyFar, HasSectionBytesIn, PlainBackedSectionsKeepDistance, PlainSectionsKeepDistance}
 use Rattle.lk_place_laws.specs.Laws.{IsSoundlySet}
-use Rattle.lk_place.specs.Placement.{IsPlacedAt, PlacesSection, is_walked, reached, section_start, state_at, walk_alignment}
+use Rattle.lk_place.specs.Placement.{is_walked, section_start, state_at, walk_alignment}
+use Rattle.lk_place.specs.CarriedOut.{IsPlacedAt, PlacesSection, reached}
 use Rattle.lk_place.specs.Plain.{IsPlain, PlacesInLoad}
 use Rattle.lk_place.specs.Ranges.{HasPart}
 use Rattle.lk_expressions.specs.Records.{Record, file_end, has_file_bytes, nowhere, record_at}
 use Rattle.lk_place.specs.Segments.{hull, part_records, section_record, section_records}
 use Rattle.lk_place.specs.Setting.{IsReady, Setting, part_count, part_number, size_at}
 use Rattle.lk_place.proofs.ApartLaws.{section_one}
+use Rattle.lk_place.proofs.PartEvents.{others_are_nowhere}
 use Rattle.lk_place_laws.proofs.MemoryApart.{placed_of}
 use Rattle.lk_place_laws.proofs.DistanceLaws.{IsAsFar, IsSectionAlong, IsThrough, StartsAsFar, base_at, equally, section_along, unbacked_size}
 use Rattle.lk_place.proofs.Insides.{placed_in_range}
@@ -176,7 +178,7 @@ section_early setting states records i s set h there =
       | inl early ↦ early
       | inr late ↦
           let none : (j : ℕ) → j < part_count setting.plan.sections s → record_at records (part_number setting.plan.sections s j) ≡ nowhere
-          = λ j below. set.placed.others (part_number setting.plan.sections s j) (λ a.
+          = λ j below. others_are_nowhere setting states records set.placed (part_number setting.plan.sections s j) (λ a.
           let part : HasPart setting.plan s (part_number setting.plan.sections s j) = record { from = omega arith; below = omega (arith, below, first_part-suc setting.plan.sections s there) } in
           let section : a.s ≡ s = section_one setting.plan a.s s (part_number setting.plan.sections s j) (placed_of setting (length states - 1) (part_number setting.plan.sections s j) set.ready a) part in
           let event : slice_get setting.plan.events a.k ≡ Some (Section s) = a.places ∙ ap (λ n. Some (Section n)) section in
@@ -194,7 +196,7 @@ section_takes setting states records i s set h there early =
     elim (cases_Bool (is_file_backed setting.plan s)) [
       | inl backed ↦ backed
       | inr unbacked ↦
-          let step = step_at setting states records h.k (Section s) set.placed early h.places.places.here in
+          let step = step_at setting states records h.k (Section s) set.ready set.placed early h.places.places.here in
           let no = emptied setting records s step.entered.file set.placed.each there (λ j below. (
             part_file setting s j step.entered (state_at states (h.k + 1)) records set.ready there unbacked step.places.placed below,
             unbacked_size setting s j step.entered (state_at states (h.k + 1)) records unbacked step.places.placed below,

@@ -11,7 +11,8 @@ use Rattle.lk_expressions.specs.Records.{Record, file_end, mem_end, nowhere, rec
 use Rattle.lk_place.specs.declared.cursors.Cursors.{Cursors}
 use Rattle.lk_place.specs.declared.cursors.Offsets.{Offsets}
 use Rattle.lk_place_laws.specs.Laws.{IsSoundlySet}
-use Rattle.lk_place.specs.Placement.{first_walked, IsPlaced, IsRestingAt, is_walked, known_before, PlacesSection, reached, section_start, state_at, walk_alignment}
+use Rattle.lk_place.specs.Placement.{first_walked, IsPlaced, is_walked, known_before, section_start, state_at, walk_alignment}
+use Rattle.lk_place.specs.CarriedOut.{IsRestingAt, PlacesSection, reached}
 use Rattle.lk_place.specs.Plain.{IsPlain}
 use Rattle.lk_place.specs.Segments.{hull, part_records, section_record}
 use Rattle.lk_place.specs.Setting.{IsReady, Setting, part_count, part_number, size_at}
@@ -144,7 +145,7 @@ file_between : (setting : Setting) (states : List Cursors) (records : List Recor
     → k < length states - 1 → slice_get setting.plan.events k ≡ Some (Section s)
     → ((state_at states k).file ≤ (span_of setting records s).file_offset) × (file_end (span_of setting records s) ≤ (state_at states (k + 1)).file)
 file_between setting states records ready placed s k there less here =
-    let step = step_at setting states records k (Section s) placed less here in
+    let step = step_at setting states records k (Section s) ready placed less here in
     let from : Cursors = state_at states k in
     let to : Cursors = state_at states (k + 1) in
     let places : PlacesSection setting s step.entered records to = step.places.placed in
@@ -164,11 +165,11 @@ memory_between : (setting : Setting) (states : List Cursors) (records : List Rec
     → (free_memory (state_at states k) ≤ (span_of setting records s).mem_offset) × (mem_end (span_of setting records s) ≤ free_memory (state_at states (k + 1)))
 memory_between setting states records set plain s k there less here memory =
     let unmoved = plain_plan setting.plan setting.output plain in
-    let step = step_at setting states records k (Section s) set.placed less here in
+    let step = step_at setting states records k (Section s) set.ready set.placed less here in
     let has = and_parts (is_allocated setting.plan s) _ memory in
     let from : Cursors = state_at states k in
     let to : Cursors = state_at states (k + 1) in
-    let quiet : from.pending ≡ None = never_waits setting states records set.placed unmoved k (omega arith) in
+    let quiet : from.pending ≡ None = never_waits setting states records set.ready set.placed unmoved k (omega arith) in
     let taken = (enters setting (known_before setting states records k) s from step.entered unmoved.free quiet step.moves).taken (not-true (is_zero_fill_thread_local setting.plan s) has.1) in
     let places : PlacesSection setting s step.entered records to = step.places.placed in
     let unsaved : to.saved ≡ None = ap (λ (c : Cursors). c.saved) places.leaves ∙ taken.1 in
@@ -216,7 +217,7 @@ file_sections_are_apart setting states records ready placed whole s t other one 
     let second = early setting states b.0 t whole b.1 in
     let r = file_between setting states records ready placed s a.0 one first a.1 in
     let q = file_between setting states records ready placed t b.0 two second b.1 in
-    apart_by_events (λ k. (state_at states k).file) (length states - 1) (file_rises setting states records placed) a.0 b.0
+    apart_by_events (λ k. (state_at states k).file) (length states - 1) (file_rises setting states records ready placed) a.0 b.0
     (span_of setting records s).file_offset (file_end (span_of setting records s)) (span_of setting records t).file_offset (file_end (span_of setting records t))
     first second (events_differ setting s t a.0 b.0 other a.1 b.1) r.0 r.1 q.0 q.1
 
@@ -247,7 +248,7 @@ file_sections_rise setting states records ready placed whole s t k m less here t
     let second = early setting states m t whole there in
     let r = file_between setting states records ready placed s k (placed_there setting s k ready here) first here in
     let q = file_between setting states records ready placed t m (placed_there setting t m ready there) second there in
-    in_order (λ n. (state_at states n).file) (length states - 1) (file_rises setting states records placed) k m
+    in_order (λ n. (state_at states n).file) (length states - 1) (file_rises setting states records ready placed) k m
     (file_end (span_of setting records s)) (span_of setting records t).file_offset less second r.1 q.0
 
 pub plain_memory_sections_rise : PlainMemorySectionsRise

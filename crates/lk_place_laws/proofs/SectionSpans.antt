@@ -1,6 +1,6 @@
 -- What each section spans: it ends below 2^64, and where it has bytes of the file it has some in memory.
-use Rattle.std.proofs.Common.{◌≡◌, ℕ, zero, suc, ◌+◌, ◌-◌, ◌≤◌, ◌<◌, ◌^◌, Bool, true, false, List, [], ◌∷◌, length, map, Option, Some, None, refl, sym, ap, ◌∙◌, inl, inr, arith, fold}
-use Rattle.std.specs.Prelude.{max, min, nat_lt, option_map, ◌==◌, ◌||◌, if◌then◌else◌}
+use Rattle.std.proofs.Common.{◌≡◌, ℕ, zero, suc, ◌+◌, ◌-◌, ◌≤◌, ◌<◌, ◌^◌, Bool, true, false, List, [], ◌∷◌, length, map, refl, sym, ap, ◌∙◌, inl, inr, arith, fold}
+use Rattle.std.specs.Prelude.{max, min, nat_lt, ◌==◌, ◌||◌, if◌then◌else◌}
 use Rattle.std.specs.List.{slice_index_or}
 use Rattle.std.proofs.lemmas.Bool.{cases_Bool, eqb-true}
 use Rattle.std.proofs.lemmas.Bool.Decides.{nat_tests}
@@ -9,10 +9,8 @@ use Rattle.lk_link.specs.Parts.{all_parts}
 use Rattle.lk_link.specs.PlanSections.{is_file_backed, section_at}
 use Rattle.lk_expressions.specs.Records.{Fits, Record, file_end, is_filled, mem_end, nowhere, record_at}
 use Rattle.lk_place.specs.declared.cursors.Cursors.{Cursors}
-use Rattle.lk_place.specs.declared.error.Refusal.{Refusal}
-use Rattle.lk_place.specs.InRegions.{past_region, stands_in}
-use Rattle.lk_place.specs.PlacedBefore.{PlacedRecords}
-use Rattle.lk_place.specs.Placement.{IsPlaced, PlacesSection, either_refusal, event_refusal, first_walked, is_walked, known_before, load_given, load_refusal, numbered, placing_refusal, refusal_behind_move, section_left, section_overflow, section_refusal, state_at}
+use Rattle.lk_place.specs.Placement.{IsPlaced, first_walked, is_walked, state_at}
+use Rattle.lk_place.specs.CarriedOut.{PlacesSection}
 use Rattle.lk_place_laws.specs.SectionRanges.{FileBytesAreBacked, SectionsFit, span_of}
 use Rattle.lk_place_laws.specs.SegmentHulls.{HoldsRecord}
 use Rattle.lk_place.specs.Segments.{hull, part_records, section_record}
@@ -62,28 +60,13 @@ hull_holds (r ∷ rs) (suc j) below =
 
 -- ---- ends
 
-unnumbered : (k : ℕ) (o : Option Refusal) → option_map (numbered k) o ≡ None → o ≡ None
-unnumbered k None h = refl
-unnumbered k (Some r) h = absurd (cc)
-
-first_none : (first later : Option Refusal) → either_refusal first later ≡ None → first ≡ None
-first_none None later h = refl
-first_none (Some r) later h = absurd (cc)
-
 -- where no event is refused, each part of a section ends below 2^64
 parts_fit : (setting : Setting) (states : List Cursors) (records : List Record) → IsReady setting → IsPlaced setting states records → length states ≡ length setting.plan.events + 1
     → (s : ℕ) → s < length setting.plan.sections → (j : ℕ) → j < part_count setting.plan.sections s → Fits (record_at records (part_number setting.plan.sections s j))
 parts_fit setting states records ready placed whole s there j below =
     let (k, here) = ready.events.placed s there in
-    let before = early setting states k s whole here in
-    let passes = placed.steps k (Section s) (omega (arith, before)) here in
-    let standing : PlacedRecords = (known_before setting states records k).standing in
-    let entered : Cursors = passes.steps.entered in
-    let none = unnumbered k (event_refusal setting (known_before setting states records k) (Section s) (state_at states k)) passes.unrefused in
-    let unrefused : section_refusal setting standing (Some s) entered ≡ None = ap (refusal_behind_move setting standing (Some s)) (sym passes.steps.moves) ∙ none in
-    let placing = first_none (placing_refusal setting standing s entered) (past_region setting (stands_in setting.plan s) (section_left setting s entered).memory) unrefused in
-    (refused_exactly_past setting s entered records (state_at states (k + 1)) ready there passes.steps.places.placed).0
-    (first_none (section_overflow setting s entered) (load_refusal (load_given setting standing s entered)) placing) j below
+    let step = step_at setting states records k (Section s) ready placed (early setting states k s whole here) here in
+    (refused_exactly_past setting s step.entered records (state_at states (k + 1)) ready there step.places.placed).0 step.places.fits j below
 
 pub below_limit : (r : Record) → Fits r → (0 ≤ r.file_offset) × (file_end r ≤ 2 ^ 64 - 1)
 below_limit r h = (omega arith, omega (arith, h.file))
@@ -137,7 +120,7 @@ part_nowhere setting s j from to records h none below false is =
 pub file_bytes_are_backed : FileBytesAreBacked
 file_bytes_are_backed setting states records ready placed whole s there bytes =
     let (k, here) = ready.events.placed s there in
-    let step = step_at setting states records k (Section s) placed (early setting states k s whole here) here in
+    let step = step_at setting states records k (Section s) ready placed (early setting states k s whole here) here in
     let to : Cursors = state_at states (k + 1) in (
       elim (cases_Bool (is_file_backed setting.plan s)) [
         | inl backed ↦ backed

@@ -5,7 +5,8 @@ use Rattle.lk_link.specs.Parts.{all_parts}
 use Rattle.lk_link.specs.PlanSections.{is_file_backed, section_at}
 use Rattle.lk_place.specs.declared.cursors.Cursors.{Cursors}
 use Rattle.lk_place.specs.PlacedBefore.{standing_before}
-use Rattle.lk_place.specs.Placement.{IsPlaced, PlacesSection, load_by, load_given, placement_refusal, section_overflow}
+use Rattle.lk_place.specs.Placement.{IsPlaced, load_by, load_given, placement_refusal, section_overflow}
+use Rattle.lk_place.specs.CarriedOut.{PlacesSection}
 use Rattle.lk_expressions.specs.Records.{Fits, Record, record_at}
 use Rattle.lk_place.specs.Setting.{IsReady, Setting, part_count, part_number, size_at}
 

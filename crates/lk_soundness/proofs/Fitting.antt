@@ -1,6 +1,5 @@
 -- The parts of a layout end below 2^64, and so do the images in them.
-use Rattle.std.proofs.Common.{◌≡◌, ℕ, ◌+◌, ◌<◌, ◌^◌, List, Option, Some, None, length, refl, sym, ap, subst, ◌∙◌, arith}
-use Rattle.std.specs.Prelude.{option_map}
+use Rattle.std.proofs.Common.{◌≡◌, ℕ, ◌+◌, ◌<◌, ◌^◌, List, Some, length, refl, sym, ap, subst, ◌∙◌, arith}
 use Rattle.std.specs.List.{slice_index}
 use Rattle.std.proofs.Math.ListN as lists
 use Rattle.std.proofs.lemmas.Option.{slice_get_within}
@@ -13,14 +12,12 @@ use Rattle.lk_layout.specs.Machines.{Machine}
 use Rattle.lk_merge.specs.Addresses.{AreStartsOf}
 use Rattle.lk_merge.specs.LinkInputs.{link_inputs}
 use Rattle.lk_merge.proofs.AddressLemmas.{are_starts}
-use Rattle.lk_place.specs.declared.error.Refusal.{Refusal}
-use Rattle.lk_place.specs.InRegions.{past_region, stands_in}
-use Rattle.lk_place.specs.PlacedBefore.{PlacedRecords}
-use Rattle.lk_place.specs.Placement.{either_refusal, event_refusal, known_before, load_given, load_refusal, numbered, placing_refusal, refusal_behind_move, section_left, section_overflow, section_refusal, state_at}
+use Rattle.lk_place.specs.Placement.{state_at}
 use Rattle.lk_place.specs.PlacementLaws.{PartsTakeTheirBytes}
+use Rattle.lk_place.proofs.Steps.{step_at}
 use Rattle.lk_place_laws.specs.PlacementLaws.{RefusedExactlyPast}
 use Rattle.lk_expressions.specs.Records.{Record, mem_end, nowhere, record_at}
-use Rattle.lk_place.specs.Setting.{Setting}
+use Rattle.lk_place.specs.Setting.{IsReady, Setting}
 use Rattle.lk_sizes.specs.Images.{image_addresses}
 use Rattle.lk_sizes.specs.PartOwners.{EndsFit}
 use Rattle.lk_layout.specs.LayoutRecord.{LayoutRecord}
@@ -31,14 +28,6 @@ use Rattle.lk_soundness.proofs.PartStarts.{section_in}
 use Rattle.lk_resolutions.proofs.Placing.{ends_fit, starts_count}
 use Rattle.lk_layout.proofs.Settings.{ready, takes}
 
-no_refusal : (k : ℕ) (o : Option Refusal) → option_map (numbered k) o ≡ None → o ≡ None
-no_refusal k None h = refl
-no_refusal k (Some r) h = absurd (cc)
-
-first_none : (first later : Option Refusal) → either_refusal first later ≡ None → first ≡ None
-first_none None later h = refl
-first_none (Some r) later h = absurd (cc)
-
 -- the section of a part isn't refused, so the part ends below 2^64
 part_fits : RefusedExactlyPast → (machine : Machine) (link : LinkInput) (layout : LayoutRecord) (laid : IsLaidOut machine link layout) (p : ℕ) → p < length (all_parts link.plan.sections)
     → mem_end (record_at laid.stage.records p) < 2 ^ 64
@@ -48,14 +37,9 @@ part_fits refused machine link layout laid p within =
     let t : ℕ = at.section in
     let event = laid.good.events.placed t at.there in
     let early : event.0 + 1 < length laid.stage.states = omega (arith, laid.stands.placed.ends laid.unrefused, slice_get_within link.plan.events event.0 (Section t) event.1) in
-    let step = laid.stands.placed.steps event.0 (Section t) early event.1 in
-    let none = no_refusal event.0 (event_refusal s (known_before s laid.stage.states laid.stage.records event.0) (Section t) (state_at laid.stage.states event.0)) step.unrefused in
-    let standing : PlacedRecords = (known_before s laid.stage.states laid.stage.records event.0).standing in
-    let unrefused : section_refusal s standing (Some t) step.steps.entered ≡ None = ap (refusal_behind_move s standing (Some t)) (sym step.steps.moves) ∙ none in
-    let placing : placing_refusal s standing t step.steps.entered ≡ None
-    = first_none (placing_refusal s standing t step.steps.entered) (past_region s (stands_in s.plan t) (section_left s t step.steps.entered).memory) unrefused in
-    let fit = (refused s t step.steps.entered laid.stage.records (state_at laid.stage.states (event.0 + 1)) (ready machine link laid.live laid.stage.walked laid.good) at.there step.steps.places.placed).0
-    (first_none (section_overflow s t step.steps.entered) (load_refusal (load_given s standing t step.steps.entered)) placing) at.place at.within in
+    let good : IsReady s = ready machine link laid.live laid.stage.walked laid.good in
+    let step = step_at s laid.stage.states laid.stage.records event.0 (Section t) good laid.stands.placed (omega (arith, early)) event.1 in
+    let fit = (refused s t step.entered laid.stage.records (state_at laid.stage.states (event.0 + 1)) good at.there step.places.placed).0 step.places.fits at.place at.within in
     subst (λ q. mem_end (record_at laid.stage.records q) < 2 ^ 64) (sym at.is) fit.mem
 
 pub owners_fit : RefusedExactlyPast → PartsTakeTheirBytes → (machine : Machine) (link : LinkInput) (layout : LayoutRecord) (laid : IsLaidOut machine link layout) → EndsFit (made_filling (made_by laid)) (starts_of laid.stage.records)

@@ -21,6 +21,8 @@ use Rattle.lk_place.specs.Setting.{Setting, has_bytes, part_count, part_number, 
 use Rattle.lk_sizes.proofs.PartAlignments.{part_is_aligned}
 use Rattle.lk_link.proofs.Powers.{alignment_divides}
 use Rattle.lk_place.proofs.AlignmentLaws.{greatest_of-least, section_aligned}
+use Rattle.lk_place.proofs.Steps.{step_at}
+use Rattle.lk_layout.proofs.Settings.{ready}
 use Rattle.lk_live.specs.declared.live.Live.{Live}
 use Rattle.lk_relax.specs.RelaxedLaws.{StandsFor}
 use Rattle.lk_relax.specs.Stages.{Stage, filling_after, refusal_of, setting_after}
@@ -84,12 +86,12 @@ part_starts machine link live stage p good stands unrefused within left =
     let t : ℕ = i.section in
     let event = good.events.placed t i.there in
     let early : event.0 + 1 < length stage.states = omega (arith, is.ends unrefused, slice_get_within link.plan.events event.0 (Section t) event.1) in
-    let step = is.steps event.0 (Section t) early event.1 in
+    let step = step_at s stage.states stage.records event.0 (Section t) (ready machine link live stage.walked good) is (omega (arith, early)) event.1 in
     let q : ℕ = part_number sections t i.place in
     let number : q ≡ p = sym i.is in
     let bytes : has_bytes s.sizes q ≡ true = ap (has_bytes s.sizes) number ∙ lt-ltb 0 (size_at s.sizes p) some in
     let walked : is_walked s t q ≡ true = ap (λ b. b || (q == first_walked s t)) bytes in
-    let placed = step.steps.places.placed.walked i.place i.within walked in
+    let placed = step.places.placed.walked i.place i.within walked in
     let own : ℕ = (part_at sections q).alignment in
     let greatest : ℕ = section_alignment s t in
     let none : PlanPart = record { alignment = 1; packed = false } in

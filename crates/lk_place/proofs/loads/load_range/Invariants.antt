@@ -2,7 +2,7 @@ use Rattle.std.proofs.Common.{◌≡◌, ℕ, ◌-◌, ◌≤◌, Some, length}
 use Rattle.std.specs.Prelude.{if◌then◌else◌}
 use Rattle.lk_place.specs.PlacedBefore.{lies_in}
 use Rattle.lk_expressions.specs.Records.{record_at}
-use Rattle.lk_place.specs.Walk.{loaded_by}
+use Rattle.lk_place.specs.Placement.{loaded_by}
 use Rattle.lk_place.proofs.loads.load_range.Given as goal
 
 -- the records loaded so far

@@ -1,9 +1,9 @@
 use Rattle.std.specs.Prelude.{◌≡◌, Err}
 use Rattle.lk_place.specs.declared.error.Refusal.{Refusal}
-use Rattle.lk_place.specs.Placement.{end_behind, first_record, overflow_at, placed_at}
+use Rattle.lk_place.specs.Placement.{end_behind, first_record, overflow_at, placed_at, unless}
 use Rattle.lk_expressions.specs.Records.{Record}
 use Rattle.lk_place.specs.Setting.{part_count}
-use Rattle.lk_place.specs.Walk.{setting_in, unless}
+use Rattle.lk_place.specs.Walk.{setting_in}
 use Rattle.lk_place.proofs.SectionEnds.{first_refused, first_walked_below, told_on}
 use Rattle.lk_place.proofs.walk.Walk.placing.Goals as goal
 
