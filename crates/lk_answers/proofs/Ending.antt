@@ -11,7 +11,7 @@ use Rattle.lk_place.specs.Segments.{end_refusal, segments_refusal, thread_local_
 use Rattle.lk_own_symbols.specs.EdgeLaws.{SegmentsEndBelow}
 use Rattle.lk_sizes.specs.Emitted.{active_segments, is_emitted}
 use Rattle.lk_layout.specs.declared.error.LayoutError.{LayoutError}
-use Rattle.lk_layout.specs.Defined.{Unless, branch_refusal, fault_refusal, joining_refusal, layout_of, made_sections, made_segments, offsets_refusal, references_refusal, segment_refusal, sites_refusal, sizes_refusal, walk_refusal}
+use Rattle.lk_layout.specs.Defined.{Unless, layout_of, made_sections, made_segments}
 use Rattle.lk_layout.specs.Errors.{place_error}
 use Rattle.lk_layout.specs.LayoutRecord.{LayoutRecord}
 use Rattle.lk_layout.specs.Made.{Made, made_content, made_of}
@@ -20,6 +20,7 @@ use Rattle.lk_answers.specs.Queries.{aligned_end}
 use Rattle.lk_answers.specs.QueryLaws.{ThreadLocalDataEndsBelow}
 use Rattle.lk_layout.specs.Redirects.{redirects_refusal}
 use Rattle.lk_layout.proofs.OneAnswer.{none_of}
+use Rattle.lk_layout.proofs.Refusals.{branch_refusal, fault_refusal, joining_refusal, offsets_refusal, segment_refusal, sites_refusal, sizes_refusal, unmet_refusal, walk_refusal}
 
 -- a layout is no refusal
 passed : (refusal : Option LayoutError) (layout : LayoutRecord) (P : Type 0) → Unless refusal (Ok layout) P → (refusal ≡ None) × P
@@ -41,7 +42,7 @@ pub ends_below : SegmentsEndBelow → ThreadLocalDataEndsBelow
 ends_below law machine link layout defined =
     let fault = passed (fault_refusal link) layout _ defined in
     let whole = passed (merging_refusal link) layout _ fault.1 in
-    let met = passed (references_refusal link) layout _ whole.1 in
+    let met = passed (unmet_refusal link) layout _ whole.1 in
     let reached = met.1 in
     let sizes = passed (sizes_refusal machine link reached.0) layout _ reached.2 in
     let end = sizes.1 in

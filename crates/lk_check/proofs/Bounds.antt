@@ -11,7 +11,8 @@ use Rattle.lk_link.specs.WellFormed.{IsWellFormed}
 use Rattle.lk_link.specs.Files.{AreNumbered}
 use Rattle.lk_link.specs.Symbols.{all_files, symbol_count}
 use Rattle.lk_check.specs.FirstExcess.{first_excess}
-use Rattle.lk_check.specs.FirstFault.{check_of, first_broken, first_fault}
+use Rattle.lk_check.specs.FirstAnswer.{first_of}
+use Rattle.lk_check.specs.FirstFault.{all_rules, check_of, first_fault, rule_fault}
 use Rattle.lk_check.proofs.Unfaulted.{within_limits, unfaulted}
 use Rattle.lk_check.proofs.Faults.{passes, fails}
 
@@ -71,11 +72,11 @@ few_segments link t h = within link t h Segments
 
 pub stops_early : (link : LinkInput) (e : LinkFault) → Err e ≡ check_of (first_excess link) → Err e ≡ check_of (first_fault link)
 unfolding first_fault
-stops_early link e h = sym (fails (first_excess link) (first_broken link) e h)
+stops_early link e h = sym (fails (first_excess link) (first_of (rule_fault link) all_rules) e h)
 
-pub goes_on : (link : LinkInput) (t : Unit {0}) → Ok t ≡ check_of (first_excess link) → check_of (first_fault link) ≡ check_of (first_broken link)
+pub goes_on : (link : LinkInput) (t : Unit {0}) → Ok t ≡ check_of (first_excess link) → check_of (first_fault link) ≡ check_of (first_of (rule_fault link) all_rules)
 unfolding first_fault
-goes_on link t h = passes (first_excess link) (first_broken link) t h
+goes_on link t h = passes (first_excess link) (first_of (rule_fault link) all_rules) t h
 
 good : (link : LinkInput) (o : Option LinkFault) → first_fault link ≡ o → OnOk (check_of o) (IsWellFormed link)
 unfolding check_of

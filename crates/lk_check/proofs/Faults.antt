@@ -15,5 +15,3 @@ pub fails : (a b : Option LinkFault) (e : LinkFault) → Err e ≡ check_of a �
 unfolding check_of first_some
 fails None b e h = absurd (cc)
 fails (Some f) b e h = sym h
-
-pub ruleset checks = (passes, fails)

@@ -1,5 +1,5 @@
 -- The first answer over a list.
-use Rattle.std.proofs.Common.{◌≡◌, ℕ, ◌+◌, ◌<◌, ◌≤◌, List, [], ◌∷◌, Option, Some, None, length, get_or, drop, refl, ap, ◌∙◌, suc}
+use Rattle.std.proofs.Common.{◌≡◌, ℕ, ◌+◌, ◌<◌, ◌≤◌, List, [], ◌∷◌, ◌++◌, Option, Some, None, length, get_or, drop, refl, ap, ◌∙◌, suc}
 use Rattle.std.specs.List.{enumerate_from, slice_get}
 use Rattle.std.proofs.lemmas.List.{drop_all, drop_more}
 use Rattle.lk_link.specs.Files.{first_some}
@@ -34,6 +34,26 @@ unfolding first_of first_some
 first_of-here f x xs y h = ap (λ o. first_some o (first_of f xs)) h
 
 pub ruleset walks = (first_of-none, first_of-on, first_of-here)
+
+-- ---- from a place on
+
+pub first_at-end : {X Y : Type 0} (f : X → Option Y) (xs : List X) (i : ℕ) → length xs ≤ i → first_of f (drop i xs) ≡ None
+unfolding first_of
+first_at-end f xs i h = ap (first_of f) (drop_all i xs h)
+
+pub first_at-on : {X Y : Type 0} (f : X → Option Y) (xs : List X) (i : ℕ) (d : X) → i < length xs → f (get_or xs i d) ≡ None → first_of f (drop i xs) ≡ first_of f (drop (i + 1) xs)
+first_at-on f xs i d h e = ap (first_of f) (drop_more xs i d h) ∙ first_of-on f (get_or xs i d) (drop (i + 1) xs) e
+
+pub first_at-here : {X Y : Type 0} (f : X → Option Y) (xs : List X) (i : ℕ) (d : X) (y : Y) → i < length xs → f (get_or xs i d) ≡ Some y → first_of f (drop i xs) ≡ Some y
+first_at-here f xs i d y h e = ap (first_of f) (drop_more xs i d h) ∙ first_of-here f (get_or xs i d) (drop (i + 1) xs) y e
+
+pub ruleset places = (first_at-end, first_at-on, first_at-here)
+
+-- what answers nothing may be left out
+pub left_out : {X Y : Type 0} (f : X → Option Y) (xs ys : List X) → first_of f ys ≡ None → first_of f (xs ++ ys) ≡ first_of f xs
+unfolding first_of
+left_out f [] ys h = h
+left_out f (x ∷ xs) ys h = ap (first_some (f x)) (left_out f xs ys h)
 
 -- ---- by numbers, from a place on
 

@@ -1,5 +1,5 @@
 -- Marks, and what they tell of events.
-use Rattle.std.proofs.Common.{◌≡◌, ◌≢◌, ℕ, zero, suc, ◌+◌, ◌<◌, ◌≤◌, Bool, true, false, not, ◌==◌, ◌&&◌, ◌||◌, List, [], ◌∷◌, ◌++◌, length, get_or, take, replicate, nat_lt, refl, ap, subst, sym, ◌∙◌, arith, ⊎_elim}
+use Rattle.std.proofs.Common.{◌≡◌, ◌≢◌, ℕ, zero, suc, ◌+◌, ◌<◌, ◌≤◌, Bool, true, false, not, ◌==◌, ◌&&◌, ◌||◌, List, [], ◌∷◌, ◌++◌, Option, length, get_or, take, replicate, nat_lt, refl, ap, subst, sym, ◌∙◌, arith, ⊎_elim}
 use Rattle.std.specs.List.{list_any, list_all, All}
 use Rattle.std.proofs.Math.Bool.{or-false, or-true}
 use Rattle.std.proofs.lemmas.List.{take_more, take_all, get_or_past, get_or-replicate, length-replicate, take-replicate}
@@ -12,8 +12,13 @@ use Rattle.lk_link.specs.declared.plan.OrderEvent.TheVariants.{SegmentStart, Seg
 use Rattle.lk_link.specs.declared.plan.Plan.{Plan}
 use Rattle.lk_link.specs.Marks.{is_marked}
 use Rattle.lk_link.specs.Rules.{is_section, is_start, is_end}
+use Rattle.lk_check.specs.FirstAnswer.{unless}
 use Rattle.lk_check.specs.FirstBadEvent.{is_good_event, all_below, is_complete}
 use Rattle.lk_check.specs.Marks.{AreMarked, AreMarks, Marks}
+
+-- the number of an event of the plan, if it may not stand behind those before it
+abbrev pub bad_event : Bool → Plan → ℕ × OrderEvent → Option ℕ
+bad_event script plan e = unless (is_good_event script plan (take e.0 plan.events) e.1) e.0
 
 -- ---- one more event
 

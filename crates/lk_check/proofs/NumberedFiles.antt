@@ -1,23 +1,20 @@
 -- The files of all groups, with their numbers.
-use Rattle.std.proofs.Common.{◌≡◌, ℕ, ◌<◌, Bool, not, ◌&&◌, List, [], ◌∷◌, Option, Some, None, IsSomeAnd, option_and_then, option_map, length, position, refl, ap, sym, subst, ◌∙◌, zero-add}
+use Rattle.std.proofs.Common.{◌≡◌, ℕ, ◌<◌, Bool, true, not, ◌&&◌, List, [], ◌∷◌, Option, Some, None, IsSomeAnd, option_and_then, option_map, length, position, refl, ap, sym, subst, ◌∙◌, zero-add}
 use Rattle.std.specs.List.{enumerate_from, flat_map, list_all, slice_get}
 use Rattle.std.proofs.lemmas.List.Folds.{list_all-append, list_all-map}
 use Rattle.std.proofs.lemmas.List.Quantifiers.{position-Some}
 use Rattle.lk_link.specs.declared.file.InputFile.{InputFile}
 use Rattle.lk_link.specs.declared.ids.FileId.{FileId}
-use Rattle.lk_link.specs.declared.link.LinkInput.{LinkInput}
 use Rattle.lk_link.specs.declared.symbol.InputSymbol.{InputSymbol}
 use Rattle.lk_link.specs.Files.{file_in}
 use Rattle.lk_link.specs.Inputs.{NumberedFile, numbered_file, group_files, numbered_files}
-use Rattle.lk_link.specs.SymbolRules.{is_good_symbol}
 use Rattle.lk_link.specs.Symbols.{all_files}
 use Rattle.lk_link.proofs.Elements.{flat_map_at, map_at, numbered_at}
 use Rattle.lk_link.proofs.InputLemmas.{files_from_are}
-use Rattle.lk_link.specs.ExpressionRules.{is_good_redirect}
-use Rattle.lk_check.specs.FirstAnswer.{first_of}
-use Rattle.lk_check.specs.FirstBadExpression.{first_bad_redirect}
-use Rattle.lk_check.specs.FirstBadFile.{first_bad_symbol}
+use Rattle.lk_link.proofs.Places.{all_where_none}
+use Rattle.lk_check.specs.FirstBadFile.{first_in_file, first_in_files}
 use Rattle.lk_check.proofs.First.{found_of}
+use Rattle.lk_check.proofs.NoAnswer.{no_map, none_from, none_of, none_where_all}
 
 -- ---- files
 
@@ -67,17 +64,25 @@ place_within p [] k h = absurd (cc)
 place_within p (x ∷ xs) k h = (position-Some p (x ∷ xs) k x h).0
 
 -- an index that was found among a file's symbols is there
-pub found_there : (bad : NumberedFile → InputSymbol → Bool) (groups : List (List InputFile)) (p : FileId × ℕ) → first_of (λ f. option_map (in_file f.id) (position (bad f) f.file.symbols)) (numbered_files groups) ≡ Some p → IsSomeAnd (file_in groups p.0) (λ f. p.1 < length f.symbols)
-found_there bad groups p h =
-    let by = found_of (λ f. option_map (in_file f.id) (position (bad f) f.file.symbols)) (numbered_files groups) p h in
+pub found_there : (good : InputFile → InputSymbol → Bool) (groups : List (List InputFile)) (p : FileId × ℕ) → first_in_files (λ f. f.symbols) good groups ≡ Some p → IsSomeAnd (file_in groups p.0) (λ f. p.1 < length f.symbols)
+found_there good groups p h =
+    let by = found_of (first_in_file (λ f. f.symbols) good) (numbered_files groups) p h in
     let file = by.1.file in
-    let at = place_of by.1.id (position (bad by.1) file.symbols) p by.3 in
+    let bad : InputSymbol → Bool = λ s. not (good file s) in
+    let at = place_of by.1.id (position bad file.symbols) p by.3 in
     let there : file_in groups p.0 ≡ Some file = ap (file_in groups) (sym at.0) ∙ numbered_there groups by.0 by.1 by.2 in
     let P : Option InputFile → Type 0 = λ o. IsSomeAnd o (λ f. p.1 < length f.symbols) in
-    subst P (sym there) (place_within (bad by.1) file.symbols p.1 at.1)
+    subst P (sym there) (place_within bad file.symbols p.1 at.1)
 
-pub symbol_there : (link : LinkInput) (p : FileId × ℕ) → first_bad_symbol link ≡ Some p → IsSomeAnd (file_in link.groups p.0) (λ f. p.1 < length f.symbols)
-symbol_there link p h = found_there (λ f s. not (is_good_symbol link f.file s)) link.groups p h
+-- ---- none bad in any file
 
-pub redirect_there : (link : LinkInput) (p : FileId × ℕ) → first_bad_redirect link ≡ Some p → IsSomeAnd (file_in link.groups p.0) (λ f. p.1 < length f.symbols)
-redirect_there link p h = found_there (λ f s. not (is_good_redirect link s.at)) link.groups p h
+-- where all that each file has is good, none is found that isn't
+pub none_in_files : {X : Type 0} (list : InputFile → List X) (good : InputFile → X → Bool) (groups : List (List InputFile)) → ((k : ℕ) (x : NumberedFile) → slice_get (numbered_files groups) k ≡ Some x → list_all (good x.file) (list x.file) ≡ true) → first_in_files list good groups ≡ None
+none_in_files list good groups h = none_from (first_in_file list good) (numbered_files groups) (λ k x at_k.
+    ap (option_map (λ i. (x.id, i))) (none_where_all (good x.file) (list x.file) (h k x at_k)))
+
+-- and the other way round
+pub all_in_files : {X : Type 0} (list : InputFile → List X) (good : InputFile → X → Bool) (groups : List (List InputFile)) → first_in_files list good groups ≡ None → (k : ℕ) (x : NumberedFile) → slice_get (numbered_files groups) k ≡ Some x → list_all (good x.file) (list x.file) ≡ true
+all_in_files list good groups h k x at_k =
+    all_where_none (good x.file) (list x.file)
+    (no_map (λ i. (x.id, i)) (position (λ y. not (good x.file y)) (list x.file)) (none_of (first_in_file list good) (numbered_files groups) k x h at_k))

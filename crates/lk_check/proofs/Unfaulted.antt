@@ -1,6 +1,6 @@
 -- A link is well formed exactly where it has no fault.
 use Rattle.std.specs.Prelude.{◌≡◌, ℕ, suc, ◌+◌, ◌<◌, ◌≤◌, ◌==◌, ◌&&◌, Bool, true, false, not, List, [], ◌∷◌, Option, Some, None, option_map, option_and_then, count_by, drop, find, length, map, nat_lt, position, take, refl}
-use Rattle.std.specs.List.{list_all, prefix_len}
+use Rattle.std.specs.List.{list_all, prefix_len, slice_get}
 use Rattle.std.proofs.Common.{sym, ap, ◌∙◌, ⊎_elim, arith, cond, get_or, zero-add}
 use Rattle.std.proofs.lemmas.Bool.{and_parts, cases_lt, eq-eqb, eqb-true, le-ltb, lt-ltb, ltb-false, not-false, not-true}
 use Rattle.std.proofs.lemmas.List.{get_or-take, get_or_default, length-take}
@@ -9,8 +9,8 @@ use Rattle.std.proofs.lemmas.List.Quantifiers.{position-Some}
 use Rattle.std.proofs.lemmas.List.Sums.{count_by_more_yes, prefix_len_passes, sum_by-cons, sum_by-take-drop, sum_by-take-le}
 use Rattle.lk_link.specs.declared.fault.Limited.{Limited}
 use Rattle.lk_link.specs.declared.fault.Limited.TheVariants as limited
-use Rattle.lk_link.specs.declared.fault.LinkFault.{LinkFault}
 use Rattle.lk_link.specs.declared.fault.LinkFault.TheVariants.{BadLink}
+use Rattle.lk_link.specs.declared.fault.Rule.{Rule}
 use Rattle.lk_link.specs.declared.fault.Rule.TheVariants as rule
 use Rattle.lk_link.specs.declared.fault.Place.TheVariants as place
 use Rattle.lk_link.specs.declared.file.InputFile.{InputFile}
@@ -21,27 +21,28 @@ use Rattle.lk_link.specs.declared.symbol.InputSymbol.{InputSymbol}
 use Rattle.lk_link.specs.Alignments.{is_alignment}
 use Rattle.lk_link.specs.Files.{file_in}
 use Rattle.lk_link.specs.FileKinds.{is_prelude}
-use Rattle.lk_link.specs.InputRules.{is_good_input, has_good_inputs}
+use Rattle.lk_link.specs.DataRules.{has_whole_data}
+use Rattle.lk_link.specs.InputRules.{is_good_input}
 use Rattle.lk_link.specs.Inputs.{NumberedFile, numbered_files}
 use Rattle.lk_link.specs.Limits.{counted, limit_of}
 use Rattle.lk_link.proofs.Places.{all_at, all_from, all_where_none, none_found}
 use Rattle.lk_link.specs.Rules.{is_good_options, is_good_section, has_good_singletons, has_script, begins_with_prelude}
 use Rattle.lk_link.specs.SegmentKinds.{is_tls}
 use Rattle.lk_link.specs.SymbolRules.{is_good_symbol, file_symbols}
-use Rattle.lk_link.specs.Symbols.{all_files, file_number, first_symbol}
+use Rattle.lk_link.specs.Symbols.{all_files, file_number}
+use Rattle.lk_link.specs.TableRules.{has_tables}
 use Rattle.lk_link.specs.WellFormed.{IsLedByPrelude, IsWellFormed}
 use Rattle.lk_link.proofs.InputLemmas.{file_stands}
-use Rattle.lk_link.specs.Files.{first_some}
+use Rattle.lk_check.specs.FirstAnswer.{first_bad, first_of}
 use Rattle.lk_check.specs.FirstBadEvent.{first_bad_event}
-use Rattle.lk_check.specs.FirstBadExpression.{expression_fault}
-use Rattle.lk_check.specs.FirstBadFile.{is_other_prelude, first_bad_prelude, bad_symbol, first_bad_symbol, bad_input, first_bad_input, first_bad_tables, first_bad_candidates, first_bad_data}
+use Rattle.lk_check.specs.FirstBadFile.{first_bad_file, first_bad_prelude, first_in_files, is_other_prelude}
 use Rattle.lk_check.specs.FirstBadPartField.{first_bad_part_field}
 use Rattle.lk_check.specs.FirstExcess.{all_limits, excess, first_excess, first_exceeded}
-use Rattle.lk_check.specs.FirstFault.{first_bad_section, second_tls, options_fault, page_fault, section_fault, part_field_fault, singletons_fault, tls_fault, event_fault, prelude_fault, symbol_fault, input_fault, table_fault, candidate_fault, data_fault, section_or_part_fault, content_fault, plan_fault, placing_fault, file_fault, first_broken, first_fault, WellFormedExactlyUnfaulted}
+use Rattle.lk_check.specs.FirstFault.{all_rules, first_fault, first_place, input_place, rule_fault, second_tls, symbol_place, WellFormedExactlyUnfaulted}
 use Rattle.lk_check.proofs.NoAnswer.{no_map, passes_if, holds_if, none_unless, none_first, both_none, find_none, none_where_all, none_of, none_from}
-use Rattle.lk_check.proofs.NumberedFiles.{numbered_there, all_by_groups, all_of_files}
+use Rattle.lk_check.proofs.NumberedFiles.{numbered_there, all_in_files, all_of_files, none_in_files}
 use Rattle.lk_check.proofs.UnfaultedEvents.{event_order, scripted, none_bad}
-use Rattle.lk_check.proofs.UnfaultedRules.{parts_good, no_bad_part, expressions_good, no_bad_expression, tables_good, no_bad_tables, candidates_good, no_bad_candidates, data_good, no_bad_data}
+use Rattle.lk_check.proofs.UnfaultedRules.{parts_good, no_bad_part, expressions_good, no_bad_expression, files_good, none_bad_in, candidates_good, no_bad_candidates}
 
 -- ---- limits
 
@@ -141,11 +142,11 @@ is_first id f none prelude =
 
 led : (groups : List (List InputFile)) → first_bad_prelude groups ≡ None → IsLedByPrelude groups
 led groups h =
-    let begun = holds_if (begins_with_prelude groups) (option_map (λ (f : NumberedFile). f.id) (find is_other_prelude (numbered_files groups))) (record { group = 0; file = 0 }) h in
+    let begun = holds_if (begins_with_prelude groups) (first_bad_file is_other_prelude groups) (place.File (record { group = 0; file = 0 })) h in
     record {
       first = begun.0;
       only = λ id f at_id prelude.
-          let none = none_found is_other_prelude (numbered_files groups) (file_number groups id) (record { id = id; file = f }) (no_map (λ (x : NumberedFile). x.id) (find is_other_prelude (numbered_files groups)) begun.1) (file_stands groups id f at_id) in
+          let none = none_found is_other_prelude (numbered_files groups) (file_number groups id) (record { id = id; file = f }) (no_map (λ (x : NumberedFile). place.File x.id) (find is_other_prelude (numbered_files groups)) begun.1) (file_stands groups id f at_id) in
           let first = is_first id f none prelude in
           (eqb-true id.group 0 first.0, eqb-true id.file 0 first.1);
     }
@@ -159,10 +160,10 @@ no_other groups h x at_id false e = ap (λ b. b && not (x.id.group == 0 && x.id.
 
 unled : (groups : List (List InputFile)) → IsLedByPrelude groups → first_bad_prelude groups ≡ None
 unled groups h =
-    ap (λ b. cond b (option_map (λ (f : NumberedFile). f.id) (find is_other_prelude (numbered_files groups))) (Some (record { group = 0; file = 0 }))) h.first
-    ∙ ap (option_map (λ (f : NumberedFile). f.id)) (find_none is_other_prelude (numbered_files groups) (λ k x at_k. no_other groups h x (numbered_there groups k x at_k) (is_prelude x.file.kind) refl))
+    ap (λ b. cond b (first_bad_file is_other_prelude groups) (Some (place.File (record { group = 0; file = 0 })))) h.first
+    ∙ ap (option_map (λ (f : NumberedFile). place.File f.id)) (find_none is_other_prelude (numbered_files groups) (λ k x at_k. no_other groups h x (numbered_there groups k x at_k) (is_prelude x.file.kind) refl))
 
--- ---- symbols and input sections
+-- ---- symbols
 
 abbrev good_pair : LinkInput → InputFile × InputSymbol → Bool
 good_pair link p = is_good_symbol link p.0 p.1
@@ -170,114 +171,79 @@ good_pair link p = is_good_symbol link p.0 p.1
 abbrev pairs_of : InputFile → List (InputFile × InputSymbol)
 pairs_of f = map (λ s. (f, s)) f.symbols
 
-symbols_good : (link : LinkInput) → first_bad_symbol link ≡ None → list_all (good_pair link) (file_symbols (all_files link.groups)) ≡ true
+symbols_good : (link : LinkInput) → first_in_files (λ f. f.symbols) (is_good_symbol link) link.groups ≡ None → list_all (good_pair link) (file_symbols (all_files link.groups)) ≡ true
 symbols_good link h =
     all_of_files (good_pair link) pairs_of link.groups
     ∙ all_from (λ x. list_all (good_pair link) (pairs_of x.file)) (numbered_files link.groups) (λ k x at_k.
     list_all-map (good_pair link) (λ s. (x.file, s)) x.file.symbols
-    ∙ all_where_none (is_good_symbol link x.file) x.file.symbols
-    (no_map (λ i. (x.id, i)) (position (λ s. not (is_good_symbol link x.file s)) x.file.symbols) (none_of (bad_symbol link) (numbered_files link.groups) k x h at_k)))
+    ∙ all_in_files (λ f. f.symbols) (is_good_symbol link) link.groups h k x at_k)
 
-no_bad_symbol : (link : LinkInput) → list_all (good_pair link) (file_symbols (all_files link.groups)) ≡ true → first_bad_symbol link ≡ None
+no_bad_symbol : (link : LinkInput) → list_all (good_pair link) (file_symbols (all_files link.groups)) ≡ true → first_in_files (λ f. f.symbols) (is_good_symbol link) link.groups ≡ None
 no_bad_symbol link h =
-    none_from (bad_symbol link) (numbered_files link.groups) (λ k x at_k.
-    ap (option_map (λ i. (x.id, i)))
-    (none_where_all (is_good_symbol link x.file) x.file.symbols
-    (sym (list_all-map (good_pair link) (λ s. (x.file, s)) x.file.symbols)
-    ∙ all_at (λ y. list_all (good_pair link) (pairs_of y.file)) (numbered_files link.groups) k x (sym (all_of_files (good_pair link) pairs_of link.groups) ∙ h) at_k)))
+    none_in_files (λ f. f.symbols) (is_good_symbol link) link.groups (λ k x at_k.
+    sym (list_all-map (good_pair link) (λ s. (x.file, s)) x.file.symbols)
+    ∙ all_at (λ y. list_all (good_pair link) (pairs_of y.file)) (numbered_files link.groups) k x (sym (all_of_files (good_pair link) pairs_of link.groups) ∙ h) at_k)
 
-inputs_good : (link : LinkInput) → first_bad_input link ≡ None → list_all (λ files. list_all (has_good_inputs link.plan) files) link.groups ≡ true
-inputs_good link h =
-    all_by_groups (has_good_inputs link.plan) link.groups
-    ∙ all_from (λ x. has_good_inputs link.plan x.file) (numbered_files link.groups) (λ k x at_k.
-    all_where_none (is_good_input link.plan (length x.file.symbols)) x.file.sections
-    (no_map (λ i. (x.id, i)) (position (λ s. not (is_good_input link.plan (length x.file.symbols) s)) x.file.sections) (none_of (bad_input link.plan) (numbered_files link.groups) k x h at_k)))
+-- ---- the rules
 
-no_bad_input : (link : LinkInput) → list_all (λ files. list_all (has_good_inputs link.plan) files) link.groups ≡ true → first_bad_input link ≡ None
-no_bad_input link h =
-    none_from (bad_input link.plan) (numbered_files link.groups) (λ k x at_k.
-    ap (option_map (λ i. (x.id, i)))
-    (none_where_all (is_good_input link.plan (length x.file.symbols)) x.file.sections
-    (all_at (λ y. has_good_inputs link.plan y.file) (numbered_files link.groups) k x (sym (all_by_groups (has_good_inputs link.plan) link.groups) ∙ h) at_k)))
+-- a link that keeps all rules has no place at which one is broken
+no_place : (link : LinkInput) → IsWellFormed link → (r : Rule) → first_place link r ≡ None
+unfolding first_place
+no_place link h rule.Options = ap (λ b. cond b None (Some place.Options)) h.options
+no_place link h rule.Page = ap (λ b. cond b None (Some place.Plan)) h.page
+no_place link h rule.Sections = ap (option_map place.Section) (none_where_all (is_good_section link.plan.sections) link.plan.sections h.sections)
+no_place link h rule.PartFields = ap (option_map place.PartField) (no_bad_part link h.parts)
+no_place link h rule.Singletons = ap (λ b. cond b None (Some place.Plan)) h.singletons
+no_place link h rule.TlsSegment = ap (option_map place.Segment) (no_second link.plan.segments h.tls)
+no_place link h rule.Events = ap (option_map place.Event) (none_bad (has_script link.groups) link.plan h.events h.locations)
+no_place link h rule.Expressions = no_bad_expression link h.expressions
+no_place link h rule.Prelude = unled link.groups h.prelude
+no_place link h rule.Symbols = ap (option_map (symbol_place link)) (no_bad_symbol link h.symbols)
+no_place link h rule.InputSections = ap (option_map input_place) (none_bad_in (λ f. f.sections) (λ f. is_good_input link.plan (length f.symbols)) link.groups h.inputs)
+no_place link h rule.Tables = ap (option_map input_place) (none_bad_in (λ f. f.sections) (λ f. has_tables link.plan.named) link.groups h.tables)
+no_place link h rule.Candidates = no_bad_candidates link h.candidates
+no_place link h rule.Data = ap (option_map input_place) (none_bad_in (λ f. f.sections) (λ f. has_whole_data) link.groups h.given)
+
+-- where there is no first fault, no rule has one
+kept : (link : LinkInput) (k : ℕ) (r : Rule) → first_of (rule_fault link) all_rules ≡ None → slice_get all_rules k ≡ Some r → first_place link r ≡ None
+kept link k r h at_k = no_map (BadLink r) (first_place link r) (none_of (rule_fault link) all_rules k r h at_k)
 
 -- ---- the link
 
 -- a link without a fault is well formed
 pub unfaulted : (link : LinkInput) → first_fault link ≡ None → IsWellFormed link
-unfolding first_fault first_broken plan_fault section_or_part_fault placing_fault file_fault content_fault options_fault page_fault section_fault part_field_fault singletons_fault tls_fault event_fault prelude_fault symbol_fault input_fault table_fault candidate_fault data_fault
+unfolding first_fault first_place
 unfaulted link h =
     let plan = link.plan in
-    let limits = none_first (first_excess link) (first_broken link) h in
-    let named : Option LinkFault = first_some (part_field_fault link) (singletons_fault link) in
-    let rules = none_first (plan_fault link) (first_some (placing_fault link) (file_fault link)) limits.1 in
-    let options = none_first (options_fault link) (first_some (page_fault plan) (first_some (section_fault plan) named)) rules.0 in
-    let page = none_first (page_fault plan) (first_some (section_fault plan) named) options.1 in
-    let sections = none_first (section_fault plan) named page.1 in
-    let parts = none_first (part_field_fault link) (singletons_fault link) sections.1 in
-    let others = none_first (placing_fault link) (file_fault link) rules.1 in
-    let tls = none_first (tls_fault plan) (first_some (event_fault link) (expression_fault link)) others.0 in
-    let placed = none_first (event_fault link) (expression_fault link) tls.1 in
-    let events = no_map _ (first_bad_event (has_script link.groups) plan) placed.0 in
-    let last : Option LinkFault = first_some (candidate_fault link) (data_fault link) in
-    let behind : Option LinkFault = first_some (table_fault link) last in
-    let prelude = none_first (prelude_fault link) (first_some (symbol_fault link) (first_some (input_fault link) behind)) others.1 in
-    let symbols = none_first (symbol_fault link) (first_some (input_fault link) behind) prelude.1 in
-    let inputs = none_first (input_fault link) behind symbols.1 in
-    let tables = none_first (table_fault link) last inputs.1 in
-    let candidates = none_first (candidate_fault link) (data_fault link) tables.1 in
+    let both = none_first (first_excess link) (first_of (rule_fault link) all_rules) h in
+    let none : (k : ℕ) (r : Rule) → slice_get all_rules k ≡ Some r → first_place link r ≡ None = λ k r at_k. kept link k r both.1 at_k in
+    let events = no_map place.Event (first_bad_event (has_script link.groups) plan) (none 6 rule.Events refl) in
     record {
-      within = within_limits link limits.0;
-      options = passes_if (is_good_options link.groups link.options) _ options.0;
-      page = passes_if (is_alignment plan.page) _ page.0;
-      sections = all_where_none (is_good_section plan.sections) plan.sections (no_map _ (first_bad_section plan.sections) sections.0);
-      parts = parts_good link (no_map _ (first_bad_part_field link) parts.0);
-      singletons = passes_if (has_good_singletons link) _ parts.1;
-      tls = tls_few plan.segments (no_map _ (second_tls plan.segments) tls.0);
+      within = within_limits link both.0;
+      options = passes_if (is_good_options link.groups link.options) place.Options (none 0 rule.Options refl);
+      page = passes_if (is_alignment plan.page) place.Plan (none 1 rule.Page refl);
+      sections = all_where_none (is_good_section plan.sections) plan.sections (no_map place.Section (first_bad (is_good_section plan.sections) plan.sections) (none 2 rule.Sections refl));
+      parts = parts_good link (no_map place.PartField (first_bad_part_field link) (none 3 rule.PartFields refl));
+      singletons = passes_if (has_good_singletons link) place.Plan (none 4 rule.Singletons refl);
+      tls = tls_few plan.segments (no_map place.Segment (second_tls plan.segments) (none 5 rule.TlsSegment refl));
       events = event_order (has_script link.groups) plan events;
       locations = scripted (has_script link.groups) plan events;
-      expressions = expressions_good link placed.1;
-      prelude = led link.groups (no_map _ (first_bad_prelude link.groups) prelude.0);
-      symbols = symbols_good link (no_map _ (first_bad_symbol link) symbols.0);
-      inputs = inputs_good link (no_map _ (first_bad_input link) inputs.0);
-      tables = tables_good link (no_map _ (first_bad_tables link) tables.0);
-      candidates = candidates_good link (no_map _ (first_bad_candidates link) candidates.0);
-      given = data_good link (no_map _ (first_bad_data link) candidates.1);
+      expressions = expressions_good link (none 7 rule.Expressions refl);
+      prelude = led link.groups (none 8 rule.Prelude refl);
+      symbols = symbols_good link (no_map (symbol_place link) (first_in_files (λ f. f.symbols) (is_good_symbol link) link.groups) (none 9 rule.Symbols refl));
+      inputs = files_good (λ f. f.sections) (λ f. is_good_input plan (length f.symbols)) link.groups (no_map input_place (first_in_files (λ f. f.sections) (λ f. is_good_input plan (length f.symbols)) link.groups) (none 10 rule.InputSections refl));
+      tables = files_good (λ f. f.sections) (λ f. has_tables plan.named) link.groups (no_map input_place (first_in_files (λ f. f.sections) (λ f. has_tables plan.named) link.groups) (none 11 rule.Tables refl));
+      candidates = candidates_good link (none 12 rule.Candidates refl);
+      given = files_good (λ f. f.sections) (λ f. has_whole_data) link.groups (no_map input_place (first_in_files (λ f. f.sections) (λ f. has_whole_data) link.groups) (none 13 rule.Data refl));
     }
 
 -- a well-formed link has no fault
 faultless : (link : LinkInput) → IsWellFormed link → first_fault link ≡ None
-unfolding first_fault first_broken plan_fault section_or_part_fault placing_fault file_fault content_fault options_fault page_fault section_fault part_field_fault singletons_fault tls_fault event_fault prelude_fault symbol_fault input_fault table_fault candidate_fault data_fault
+unfolding first_fault
 faultless link h =
-    let plan = link.plan in
-    let options : options_fault link ≡ None = ap (λ b. cond b None (Some (BadLink rule.Options place.Options))) h.options in
-    let page : page_fault plan ≡ None = ap (λ b. cond b None (Some (BadLink rule.Page place.Plan))) h.page in
-    let sections : section_fault plan ≡ None = ap (option_map (λ i. BadLink rule.Sections (place.Section i))) (none_where_all (is_good_section plan.sections) plan.sections h.sections) in
-    let parts : part_field_fault link ≡ None = ap (option_map (λ k. BadLink rule.PartFields (place.PartField k))) (no_bad_part link h.parts) in
-    let singletons : singletons_fault link ≡ None = ap (λ b. cond b None (Some (BadLink rule.Singletons place.Plan))) h.singletons in
-    let tls : tls_fault plan ≡ None = ap (option_map (λ i. BadLink rule.TlsSegment (place.Segment i))) (no_second plan.segments h.tls) in
-    let events : event_fault link ≡ None = ap (option_map (λ i. BadLink rule.Events (place.Event i))) (none_bad (has_script link.groups) plan h.events h.locations) in
-    let prelude : prelude_fault link ≡ None = ap (option_map (λ id. BadLink rule.Prelude (place.File id))) (unled link.groups h.prelude) in
-    let symbols : symbol_fault link ≡ None = ap (option_map (λ p. BadLink rule.Symbols (place.Symbol (first_symbol link.groups p.0 + p.1)))) (no_bad_symbol link h.symbols) in
-    let inputs : input_fault link ≡ None = ap (option_map (λ p. BadLink rule.InputSections (place.Input p.0 p.1))) (no_bad_input link h.inputs) in
-    let tables : table_fault link ≡ None = ap (option_map (λ p. BadLink rule.Tables (place.Input p.0 p.1))) (no_bad_tables link h.tables) in
-    let candidates : candidate_fault link ≡ None = ap (option_map (λ id. BadLink rule.Candidates (place.File id))) (no_bad_candidates link h.candidates) in
-    let given : data_fault link ≡ None = ap (option_map (λ p. BadLink rule.Data (place.Input p.0 p.1))) (no_bad_data link h.given) in
-    let last : Option LinkFault = first_some (candidate_fault link) (data_fault link) in
-    let behind : Option LinkFault = first_some (table_fault link) last in
-    let named : Option LinkFault = first_some (part_field_fault link) (singletons_fault link) in
-    both_none (first_excess link) (first_broken link)
+    both_none (first_excess link) (first_of (rule_fault link) all_rules)
     (no_excess link h.within)
-    (both_none (plan_fault link) (first_some (placing_fault link) (file_fault link))
-    (both_none (options_fault link) (first_some (page_fault plan) (first_some (section_fault plan) named)) options
-    (both_none (page_fault plan) (first_some (section_fault plan) named) page
-    (both_none (section_fault plan) named sections (both_none (part_field_fault link) (singletons_fault link) parts singletons))))
-    (both_none (placing_fault link) (file_fault link)
-    (both_none (tls_fault plan) (first_some (event_fault link) (expression_fault link)) tls
-    (both_none (event_fault link) (expression_fault link) events (no_bad_expression link h.expressions)))
-    (both_none (prelude_fault link) (first_some (symbol_fault link) (first_some (input_fault link) behind)) prelude
-    (both_none (symbol_fault link) (first_some (input_fault link) behind) symbols
-    (both_none (input_fault link) behind inputs
-    (both_none (table_fault link) last tables (both_none (candidate_fault link) (data_fault link) candidates given)))))))
+    (none_from (rule_fault link) all_rules (λ _ r _. ap (option_map (BadLink r)) (no_place link h r)))
 
 pub exactly_unfaulted : WellFormedExactlyUnfaulted
 exactly_unfaulted link = (faultless link, unfaulted link)

@@ -17,7 +17,8 @@ use Rattle.lk_link.specs.Rules.{is_section, is_start, is_end, is_location}
 use Rattle.lk_link.proofs.InputLemmas.{numbered_get}
 use Rattle.lk_link.specs.WellFormed.{IsInRange, IsAboutPlace, IsEventOrder}
 use Rattle.lk_check.specs.FirstAnswer.{first_of}
-use Rattle.lk_check.specs.FirstBadEvent.{is_good_event, bad_event, first_bad_event, all_below, is_complete}
+use Rattle.lk_check.specs.FirstBadEvent.{is_good_event, first_bad_event, all_below, is_complete}
+use Rattle.lk_check.proofs.MarkLemmas.{bad_event}
 use Rattle.lk_check.proofs.NoAnswer.{none_of, none_from, none_first, both_none, passes_if}
 
 -- ---- one event

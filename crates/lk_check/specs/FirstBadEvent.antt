@@ -1,12 +1,12 @@
 -- The first event at which the rule on events is broken.
-use Rattle.std.specs.Prelude.{ℕ, zero, suc, ◌&&◌, not, Bool, true, if◌then◌else◌, List, Option, Some, None, length, nat_lt, take}
-use Rattle.std.specs.List.{enumerate_from, list_any}
+use Rattle.std.specs.Prelude.{ℕ, zero, suc, ◌&&◌, not, Bool, true, List, Option, length, nat_lt, take}
+use Rattle.std.specs.List.{list_any}
 use Rattle.lk_link.specs.declared.plan.Plan.{Plan}
 use Rattle.lk_link.specs.declared.plan.OrderEvent.{OrderEvent}
 use Rattle.lk_link.specs.declared.plan.OrderEvent.TheVariants.{SegmentStart, SegmentEnd, Section, SetLocation, SetLocationRelative}
 use Rattle.lk_link.specs.Rules.{is_section, is_start, is_end}
 use Rattle.lk_link.specs.Files.{first_some}
-use Rattle.lk_check.specs.FirstAnswer.{first_of}
+use Rattle.lk_check.specs.FirstAnswer.{first_bad_at, unless}
 
 -- whether an event may stand behind those before it: what it names is there, nothing is named twice, a segment closes
 -- after it opened, and the location counter moves only where a script is
@@ -17,10 +17,6 @@ is_good_event script plan before (SegmentEnd i) = list_any (is_start i) before &
 is_good_event script plan before (SetLocation e) = script
 is_good_event script plan before (SetLocationRelative e s) = script && nat_lt s (length plan.sections)
 is_good_event script plan before _ = true
-
--- the number of an event of the plan, if it may not stand behind those before it
-abbrev pub bad_event : Bool → Plan → ℕ × OrderEvent → Option ℕ
-bad_event script plan e = if is_good_event script plan (take e.0 plan.events) e.1 then None else Some e.0
 
 -- whether each number below n passes
 unfoldable pub all_below : (ℕ → Bool) → ℕ → Bool
@@ -36,5 +32,4 @@ is_complete plan = all_below (λ s. list_any (is_section s) plan.events) (length
 -- where the rule on events is broken first; what is missing is missing at the end
 abbrev pub first_bad_event : Bool → Plan → Option ℕ
 first_bad_event script plan =
-    first_some (first_of (bad_event script plan) (enumerate_from 0 plan.events))
-    (if is_complete plan then None else Some (length plan.events))
+    first_some (first_bad_at (λ e. is_good_event script plan (take e.0 plan.events) e.1) plan.events) (unless (is_complete plan) (length plan.events))

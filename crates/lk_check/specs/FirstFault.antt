@@ -1,30 +1,33 @@
 -- Why a link isn't well formed: the first list that is too long, else the first rule that is broken, at its first place.
-use Rattle.std.specs.Prelude.{◌≡◌, ◌↔◌, ℕ, ◌+◌, not, List, Option, Some, None, Result, Ok, Err, option_map, option_and_then, drop, if◌then◌else◌, position}
+use Rattle.std.specs.Prelude.{◌≡◌, ◌↔◌, ℕ, ◌+◌, not, List, [], ◌∷◌, Option, Some, None, Result, Ok, Err, length, option_map, option_and_then, drop, position}
 use Rattle.lk_link.specs.declared.fault.LinkFault.{LinkFault}
 use Rattle.lk_link.specs.declared.fault.LinkFault.TheVariants.{BadLink}
+use Rattle.lk_link.specs.declared.fault.Rule.{Rule}
 use Rattle.lk_link.specs.declared.fault.Rule.TheVariants as rule
+use Rattle.lk_link.specs.declared.fault.Place.{Place}
 use Rattle.lk_link.specs.declared.fault.Place.TheVariants as place
+use Rattle.lk_link.specs.declared.ids.FileId.{FileId}
 use Rattle.lk_link.specs.declared.link.LinkInput.{LinkInput}
-use Rattle.lk_link.specs.declared.plan.Plan.{Plan}
-use Rattle.lk_link.specs.declared.plan.PlanSection.{PlanSection}
 use Rattle.lk_link.specs.declared.plan.PlanSegment.{PlanSegment}
 use Rattle.lk_link.specs.Alignments.{is_alignment}
+use Rattle.lk_link.specs.CandidateRules.{has_good_candidates}
+use Rattle.lk_link.specs.DataRules.{has_whole_data}
+use Rattle.lk_link.specs.Files.{first_some}
+use Rattle.lk_link.specs.InputRules.{is_good_input}
 use Rattle.lk_link.specs.Rules.{is_good_options, is_good_section, has_good_singletons, has_script}
 use Rattle.lk_link.specs.SegmentKinds.{is_tls}
+use Rattle.lk_link.specs.SymbolRules.{is_good_symbol}
 use Rattle.lk_link.specs.Symbols.{first_symbol}
+use Rattle.lk_link.specs.TableRules.{has_tables}
 use Rattle.lk_link.specs.WellFormed.{IsWellFormed}
-use Rattle.lk_link.specs.Files.{first_some}
+use Rattle.lk_check.specs.FirstAnswer.{first_bad, first_of, unless}
 use Rattle.lk_check.specs.FirstBadEvent.{first_bad_event}
-use Rattle.lk_check.specs.FirstBadExpression.{expression_fault}
-use Rattle.lk_check.specs.FirstBadFile.{first_bad_prelude, first_bad_symbol, first_bad_input, first_bad_tables, first_bad_candidates, first_bad_data}
+use Rattle.lk_check.specs.FirstBadExpression.{first_bad_expression, first_bad_redirect}
+use Rattle.lk_check.specs.FirstBadFile.{first_bad_file, first_bad_prelude, first_in_files}
 use Rattle.lk_check.specs.FirstBadPartField.{first_bad_part_field}
 use Rattle.lk_check.specs.FirstExcess.{first_excess}
 
--- ---- where a rule on the plan is broken first
-
--- the first section that isn't good
-abbrev pub first_bad_section : List PlanSection → Option ℕ
-first_bad_section sections = position (λ s. not (is_good_section sections s)) sections
+-- ---- places
 
 -- the first thread-local segment
 abbrev pub first_tls : List PlanSegment → Option ℕ
@@ -35,79 +38,44 @@ abbrev pub second_tls : List PlanSegment → Option ℕ
 second_tls segments =
     option_and_then (λ i. option_map (λ k. i + 1 + k) (first_tls (drop (i + 1) segments))) (first_tls segments)
 
--- ---- the fault of each rule, at its first place
+-- a symbol is told by its number over all files, an input section by its file and its index there
+abbrev pub symbol_place : LinkInput → FileId × ℕ → Place
+symbol_place link p = place.Symbol (first_symbol link.groups p.0 + p.1)
 
-unfoldable pub options_fault : LinkInput → Option LinkFault
-options_fault link = if is_good_options link.groups link.options then None else Some (BadLink rule.Options place.Options)
+abbrev pub input_place : FileId × ℕ → Place
+input_place p = place.Input p.0 p.1
 
-unfoldable pub page_fault : Plan → Option LinkFault
-page_fault plan = if is_alignment plan.page then None else Some (BadLink rule.Page place.Plan)
+-- ---- the rules
 
-unfoldable pub section_fault : Plan → Option LinkFault
-section_fault plan = option_map (λ i. BadLink rule.Sections (place.Section i)) (first_bad_section plan.sections)
+-- where a link breaks a rule first, if it does; those on tables and on data hold of discarded sections too
+unfoldable pub first_place : LinkInput → Rule → Option Place
+first_place link rule.Options = unless (is_good_options link.groups link.options) place.Options
+first_place link rule.Page = unless (is_alignment link.plan.page) place.Plan
+first_place link rule.Sections = option_map place.Section (first_bad (is_good_section link.plan.sections) link.plan.sections)
+first_place link rule.PartFields = option_map place.PartField (first_bad_part_field link)
+first_place link rule.Singletons = unless (has_good_singletons link) place.Plan
+first_place link rule.TlsSegment = option_map place.Segment (second_tls link.plan.segments)
+first_place link rule.Events = option_map place.Event (first_bad_event (has_script link.groups) link.plan)
+first_place link rule.Expressions = first_some (first_bad_expression link) (option_map (symbol_place link) (first_bad_redirect link))
+first_place link rule.Prelude = first_bad_prelude link.groups
+first_place link rule.Symbols = option_map (symbol_place link) (first_in_files (λ f. f.symbols) (is_good_symbol link) link.groups)
+first_place link rule.InputSections = option_map input_place (first_in_files (λ f. f.sections) (λ f. is_good_input link.plan (length f.symbols)) link.groups)
+first_place link rule.Tables = option_map input_place (first_in_files (λ f. f.sections) (λ f. has_tables link.plan.named) link.groups)
+first_place link rule.Candidates = first_bad_file (λ f. not (has_good_candidates link f.file)) link.groups
+first_place link rule.Data = option_map input_place (first_in_files (λ f. f.sections) (λ f. has_whole_data) link.groups)
 
-unfoldable pub part_field_fault : LinkInput → Option LinkFault
-part_field_fault link = option_map (λ k. BadLink rule.PartFields (place.PartField k)) (first_bad_part_field link)
+-- the order in which rules are looked at: that of their numbers
+abbrev pub all_rules : List Rule
+all_rules = rule.Options ∷ rule.Page ∷ rule.Sections ∷ rule.PartFields ∷ rule.Singletons ∷ rule.TlsSegment ∷ rule.Events ∷ rule.Expressions
+    ∷ rule.Prelude ∷ rule.Symbols ∷ rule.InputSections ∷ rule.Tables ∷ rule.Candidates ∷ rule.Data ∷ []
 
-unfoldable pub singletons_fault : LinkInput → Option LinkFault
-singletons_fault link = if has_good_singletons link then None else Some (BadLink rule.Singletons place.Plan)
-
-unfoldable pub tls_fault : Plan → Option LinkFault
-tls_fault plan = option_map (λ i. BadLink rule.TlsSegment (place.Segment i)) (second_tls plan.segments)
-
-unfoldable pub event_fault : LinkInput → Option LinkFault
-event_fault link = option_map (λ i. BadLink rule.Events (place.Event i)) (first_bad_event (has_script link.groups) link.plan)
-
-unfoldable pub prelude_fault : LinkInput → Option LinkFault
-prelude_fault link = option_map (λ id. BadLink rule.Prelude (place.File id)) (first_bad_prelude link.groups)
-
--- a symbol is told by its number over all files
-unfoldable pub symbol_fault : LinkInput → Option LinkFault
-symbol_fault link = option_map (λ p. BadLink rule.Symbols (place.Symbol (first_symbol link.groups p.0 + p.1))) (first_bad_symbol link)
-
-unfoldable pub input_fault : LinkInput → Option LinkFault
-input_fault link = option_map (λ p. BadLink rule.InputSections (place.Input p.0 p.1)) (first_bad_input link)
-
--- also of discarded sections
-unfoldable pub table_fault : LinkInput → Option LinkFault
-table_fault link = option_map (λ p. BadLink rule.Tables (place.Input p.0 p.1)) (first_bad_tables link)
-
-unfoldable pub candidate_fault : LinkInput → Option LinkFault
-candidate_fault link = option_map (λ id. BadLink rule.Candidates (place.File id)) (first_bad_candidates link)
-
--- also of discarded sections
-unfoldable pub data_fault : LinkInput → Option LinkFault
-data_fault link = option_map (λ p. BadLink rule.Data (place.Input p.0 p.1)) (first_bad_data link)
-
--- ---- the first fault
-
--- the first rule on output sections, and on parts and sections that the plan names, that is broken
-unfoldable pub section_or_part_fault : LinkInput → Option LinkFault
-section_or_part_fault link = first_some (section_fault link.plan) (first_some (part_field_fault link) (singletons_fault link))
-
--- the first rule on options and the plan's parts that is broken
-unfoldable pub plan_fault : LinkInput → Option LinkFault
-plan_fault link = first_some (options_fault link) (first_some (page_fault link.plan) (section_or_part_fault link))
-
--- the first rule on what is placed that is broken
-unfoldable pub placing_fault : LinkInput → Option LinkFault
-placing_fault link = first_some (tls_fault link.plan) (first_some (event_fault link) (expression_fault link))
-
--- the first rule on what files hold beside symbols that is broken
-unfoldable pub content_fault : LinkInput → Option LinkFault
-content_fault link = first_some (input_fault link) (first_some (table_fault link) (first_some (candidate_fault link) (data_fault link)))
-
--- the first rule on files that is broken
-unfoldable pub file_fault : LinkInput → Option LinkFault
-file_fault link = first_some (prelude_fault link) (first_some (symbol_fault link) (content_fault link))
-
--- the first rule that is broken
-unfoldable pub first_broken : LinkInput → Option LinkFault
-first_broken link = first_some (plan_fault link) (first_some (placing_fault link) (file_fault link))
+-- the fault of a rule that is broken
+abbrev pub rule_fault : LinkInput → Rule → Option LinkFault
+rule_fault link r = option_map (BadLink r) (first_place link r)
 
 -- why a link is refused: the first list that is too long, else the first broken rule
 unfoldable pub first_fault : LinkInput → Option LinkFault
-first_fault link = first_some (first_excess link) (first_broken link)
+first_fault link = first_some (first_excess link) (first_of (rule_fault link) all_rules)
 
 -- what a check answers: the fault, if there is one
 unfoldable pub check_of : Option LinkFault → Result (Unit {0}) LinkFault

@@ -8,7 +8,8 @@ ghost use Rattle.lk_link.specs.Files.{AreNumbered};
 ghost use Rattle.lk_link.specs.SymbolRules.{location_count};
 ghost use Rattle.lk_link.specs.Symbols.{all_files, symbol_count};
 ghost use Rattle.lk_check.specs.ByGroups.{has_good_files, has_good_sections, has_good_symbols, is_good_file, is_good_group};
-ghost use Rattle.lk_check.specs.FirstFault.{check_of, first_broken};
+ghost use Rattle.lk_check.specs.FirstAnswer.{first_of};
+ghost use Rattle.lk_check.specs.FirstFault.{all_rules, check_of, rule_fault};
 
 use crate::candidates::has_good_candidates;
 use crate::events::location_count;
@@ -33,7 +34,7 @@ pub fn check_rules_by_groups<R: Threads + Sync>(rt: &R, link: &LinkInput) -> Res
     requires symbols { symbol_count (all_files link.now.groups) ≤ SYMBOLS }
     requires sections { length link.now.plan.sections ≤ OUTPUT_SECTIONS }
     requires segments { length link.now.plan.segments ≤ SEGMENTS }
-    ensures { result ≡ check_of (first_broken link.now) }
+    ensures { result ≡ check_of (first_of (rule_fault link.now) all_rules) }
 {
     if has_good_files(rt, link) {
         check_outside_files(link)

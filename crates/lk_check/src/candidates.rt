@@ -2,40 +2,24 @@
 
 ghost use Rattle.std.specs.Prelude.{◌≡◌, false};
 ghost use Rattle.std.specs.Option.{option_map_or};
+ghost use Rattle.lk_link.specs.declared.fault.Rule.TheVariants as rule;
 ghost use Rattle.lk_link.specs.CandidateRules.{has_good_candidates, is_good_candidate, is_section_of_object};
 ghost use Rattle.lk_link.specs.Files.{AreNumbered, file_in};
-ghost use Rattle.lk_check.specs.FirstBadFile.{first_bad_candidates};
-ghost use Rattle.lk_check.specs.FirstFault.{check_of, candidate_fault};
+ghost use Rattle.lk_check.specs.FirstFault.{first_place};
 
-use lk_link::fault::{LinkFault, Place, Rule};
+use lk_link::fault::Place;
 use lk_link::file::{Candidate, InputFile};
-use lk_link::ids::FileId;
 use lk_link::link::LinkInput;
 
-/// A candidate's output section is there, and it is a section of an object; else the place is the first file with one of which that
-/// isn't so.
-#[tactic(auto, unfolding(crate::specs::FirstFault::check_of, crate::specs::FirstFault::candidate_fault))]
-pub fn check_candidates(link: &LinkInput) -> Result<(), LinkFault>
+/// The first file with a candidate that isn't good: one whose output section isn't there, or which is no section of an object.
+#[tactic(auto, unfolding(crate::specs::FirstFault::first_place))]
+pub fn first_place(link: &LinkInput) -> Option<Place>
     requires { AreNumbered link.now.groups }
-    ensures { result ≡ check_of (candidate_fault link.now) }
-{
-    match bad_file(link) {
-        None => Ok(()),
-        Some(id) => Err(LinkFault::BadLink {
-            rule: Rule::Candidates,
-            place: Place::File(id),
-        }),
-    }
-}
-
-/// The first file with a candidate that isn't good.
-fn bad_file(link: &LinkInput) -> Option<FileId>
-    requires { AreNumbered link.now.groups }
-    ensures { result ≡ first_bad_candidates link.now }
+    ensures { result ≡ first_place link.now rule.Candidates }
 {
     for at in link.groups.files() {
         if !has_good_candidates(link, at.file) {
-            return Some(at.id);
+            return Some(Place::File(at.id));
         }
     }
     None

@@ -15,14 +15,15 @@ ghost use Rattle.std.specs.Prelude.{◌≡◌, ℕ, ◌+◌, ◌≤◌, false, t
 ghost use Rattle.lk_link.specs.declared.plan.OrderEvent.{OrderEvent};
 ghost use Rattle.lk_link.specs.declared.plan.Plan.{Plan};
 ghost use Rattle.std.specs.List.{list_all, list_any};
+ghost use Rattle.lk_link.specs.declared.fault.Rule.TheVariants as rule;
 ghost use Rattle.lk_link.specs.FileKinds.{is_script};
 ghost use Rattle.lk_link.specs.Rules.{has_script, is_location};
 ghost use Rattle.lk_link.specs.SymbolRules.{location_count};
 ghost use Rattle.lk_check.specs.FirstBadEvent.{is_good_event, first_bad_event, is_complete};
-ghost use Rattle.lk_check.specs.FirstFault.{check_of, event_fault};
+ghost use Rattle.lk_check.specs.FirstFault.{first_place};
 ghost use Rattle.lk_check.specs.Marks.{AreMarks, Marks};
 
-use lk_link::fault::{LinkFault, Place, Rule};
+use lk_link::fault::Place;
 use lk_link::file::InputFile;
 use lk_link::limits::{OUTPUT_SECTIONS, SEGMENTS};
 use lk_link::link::LinkInput;
@@ -39,23 +40,18 @@ const MOST_SEGMENTS: usize = SEGMENTS as usize;
 /// The most sections and segments together.
 const MOST_MARKED: usize = MOST_SECTIONS + MOST_SEGMENTS;
 
-/// Each section is placed once, and each segment opened once, and closed once after that; what an event names is there,
-/// and only where a script is does the location counter move. Else the place is the first event after which that can't
-/// be, the number of events for what is missing. Takes time for each event, section and segment, and no memory.
-#[tactic(auto, unfolding(crate::specs::FirstFault::check_of, crate::specs::FirstFault::event_fault))]
-pub fn check_events(link: &LinkInput) -> Result<(), LinkFault>
+/// The first event behind which it can't be any more that each section is placed once, and each segment opened once, and closed once after
+/// that, that what an event names is there, and that the location counter moves only where a script is; the number of events for what is
+/// missing. Takes time for each event, section and segment, and no memory.
+#[tactic(auto, unfolding(crate::specs::FirstFault::first_place))]
+pub fn first_place(link: &LinkInput) -> Option<Place>
     requires sections { length link.now.plan.sections ≤ OUTPUT_SECTIONS }
     requires segments { length link.now.plan.segments ≤ SEGMENTS }
-    ensures { result ≡ check_of (event_fault link.now) }
+    ensures { result ≡ first_place link.now rule.Events }
 {
     let script = has_script(link.groups.as_slice());
-    match first_bad_event::<MOST_SECTIONS, MOST_SEGMENTS>(&link.plan, script) {
-        None => Ok(()),
-        Some(event) => Err(LinkFault::BadLink {
-            rule: Rule::Events,
-            place: Place::Event(event),
-        }),
-    }
+    let event = first_bad_event::<MOST_SECTIONS, MOST_SEGMENTS>(&link.plan, script)?;
+    Some(Place::Event(event))
 }
 
 /// Whether a file is a script.

@@ -1,18 +1,20 @@
 //! The rule on expressions: those of the base, of regions, of where sections are loaded from, of events, and of symbols.
 
-ghost use Rattle.std.specs.Prelude.{◌≡◌, ◌≤◌, not, position};
+ghost use Rattle.std.specs.Prelude.{◌≡◌, ◌≤◌, not, option_map, position, true};
 ghost use Rattle.std.specs.List.{list_all};
+ghost use Rattle.lk_link.specs.declared.fault.Rule.TheVariants as rule;
 ghost use Rattle.lk_link.specs.ExpressionRules.{all_operands, has_good_address, has_good_move, is_good_expression, is_good_redirect, is_good_region, is_operand_there, operand_passes};
 ghost use Rattle.lk_link.specs.Files.{AreNumbered};
 ghost use Rattle.lk_link.specs.Symbols.{all_files, symbol_count};
-ghost use Rattle.lk_check.specs.ByGroups.{plan_expression_fault, plan_use_fault};
-ghost use Rattle.lk_check.specs.FirstBadExpression.{address_fault, base_fault, expression_fault, first_bad_address, first_bad_move, first_bad_redirect, first_bad_region, move_fault, redirect_fault, region_fault, use_fault};
-ghost use Rattle.lk_check.specs.FirstFault.{check_of};
+ghost use Rattle.lk_check.specs.ByGroups.{has_good_files};
+ghost use Rattle.lk_check.specs.FirstAnswer.{first_bad};
+ghost use Rattle.lk_check.specs.FirstBadExpression.{first_bad_expression, first_bad_redirect};
+ghost use Rattle.lk_check.specs.FirstFault.{first_place, symbol_place};
 
 use crate::depths::is_shallow;
 use crate::first_bad_symbol::symbol_number;
 use lk_link::expression::{Expression, Operand, Token};
-use lk_link::fault::{LinkFault, Place, Rule};
+use lk_link::fault::Place;
 use lk_link::file::InputFile;
 use lk_link::ids::FileId;
 use lk_link::limits::SYMBOLS;
@@ -20,126 +22,57 @@ use lk_link::link::LinkInput;
 use lk_link::plan::{OrderEvent, PlanSection, Region};
 use lk_link::symbol::SymbolPlacement;
 
-/// What each expression names is there, and it is at most 100 deep; else the place is the first of which that isn't so, where the
-/// base comes first, then regions, sections, events and symbols. Takes time for each token.
-#[tactic(auto, using(crate::proofs::Faults::checks), unfolding(crate::specs::FirstBadExpression::expression_fault))]
-pub fn check_expressions(link: &LinkInput) -> Result<(), LinkFault>
+/// Where an expression names what isn't there, or is more than 100 deep: the first of the plan, else the first symbol. Symbols aren't looked at
+/// where all that files hold is known to be good. Takes time for each token.
+#[tactic(auto, using(crate::proofs::First::firsts), unfolding(crate::specs::FirstFault::first_place))]
+pub fn first_place(link: &LinkInput, good_files: bool) -> Option<Place>
     requires files { AreNumbered link.now.groups }
     requires symbols { symbol_count (all_files link.now.groups) ≤ SYMBOLS }
-    ensures { result ≡ check_of (expression_fault link.now) }
+    requires good { good_files ≡ true → has_good_files link.now ≡ true }
+    ensures { result ≡ first_place link.now rule.Expressions }
 {
-    check_base(link)?;
-    check_regions(link)?;
-    check_uses(link)
+    match first_bad_expression(link) {
+        Some(place) => Some(place),
+        None => redirect_place(link, good_files),
+    }
 }
 
-/// The same without those of symbols.
-#[tactic(auto, using(crate::proofs::Faults::checks), unfolding(crate::specs::ByGroups::plan_expression_fault))]
-pub fn check_plan_expressions(link: &LinkInput) -> Result<(), LinkFault>
-    ensures { result ≡ check_of (plan_expression_fault link.now) }
+/// The first expression of the plan that isn't good: that of the base, those of regions, of the load addresses of sections, and of events.
+#[tactic(auto, using(crate::proofs::First::firsts))]
+fn first_bad_expression(link: &LinkInput) -> Option<Place>
+    ensures { result ≡ first_bad_expression link.now }
 {
-    check_base(link)?;
-    check_regions(link)?;
-    check_plan_uses(link)
+    if !is_good_expression(link, &link.plan.base) {
+        return Some(Place::Plan);
+    }
+    if let Some(region) = first_bad_region(link) {
+        return Some(Place::Region(region));
+    }
+    if let Some(section) = first_bad_address(link) {
+        return Some(Place::Section(section));
+    }
+    Some(Place::Event(first_bad_move(link)?))
 }
 
-/// Those of sections and events are good; else the place is the first of which that isn't so, in this order.
-#[tactic(auto, using(crate::proofs::Faults::checks), unfolding(crate::specs::ByGroups::plan_use_fault))]
-fn check_plan_uses(link: &LinkInput) -> Result<(), LinkFault>
-    ensures { result ≡ check_of (plan_use_fault link.now) }
-{
-    check_addresses(link)?;
-    check_moves(link)
-}
-
-/// Those of sections, events and symbols are good; else the place is the first of which that isn't so, in this order.
-#[tactic(auto, using(crate::proofs::Faults::checks), unfolding(crate::specs::FirstBadExpression::use_fault))]
-fn check_uses(link: &LinkInput) -> Result<(), LinkFault>
+/// The first symbol whose redirect isn't good.
+fn redirect_place(link: &LinkInput, good_files: bool) -> Option<Place>
     requires files { AreNumbered link.now.groups }
     requires symbols { symbol_count (all_files link.now.groups) ≤ SYMBOLS }
-    ensures { result ≡ check_of (use_fault link.now) }
+    requires good { good_files ≡ true → has_good_files link.now ≡ true }
+    ensures { result ≡ option_map (symbol_place link.now) (first_bad_redirect link.now) }
 {
-    check_addresses(link)?;
-    check_moves(link)?;
-    check_redirects(link)
-}
-
-/// The base's expression is good.
-#[tactic(auto, unfolding(crate::specs::FirstFault::check_of, crate::specs::FirstBadExpression::base_fault))]
-fn check_base(link: &LinkInput) -> Result<(), LinkFault>
-    ensures { result ≡ check_of (base_fault link.now) }
-{
-    if is_good_expression(link, &link.plan.base) {
-        Ok(())
-    } else {
-        Err(LinkFault::BadLink {
-            rule: Rule::Expressions,
-            place: Place::Plan,
-        })
+    if good_files {
+        return None;
     }
-}
-
-/// Those of each region are; else the place is the first region of which they aren't.
-#[tactic(auto, unfolding(crate::specs::FirstFault::check_of, crate::specs::FirstBadExpression::region_fault))]
-fn check_regions(link: &LinkInput) -> Result<(), LinkFault>
-    ensures { result ≡ check_of (region_fault link.now) }
-{
-    match first_bad_region(link) {
-        None => Ok(()),
-        Some(region) => Err(LinkFault::BadLink {
-            rule: Rule::Expressions,
-            place: Place::Region(region),
-        }),
-    }
-}
-
-/// Those of where sections are loaded from are; else the place is the first section of which it isn't.
-#[tactic(auto, unfolding(crate::specs::FirstFault::check_of, crate::specs::FirstBadExpression::address_fault))]
-fn check_addresses(link: &LinkInput) -> Result<(), LinkFault>
-    ensures { result ≡ check_of (address_fault link.now) }
-{
-    match first_bad_address(link) {
-        None => Ok(()),
-        Some(section) => Err(LinkFault::BadLink {
-            rule: Rule::Expressions,
-            place: Place::Section(section),
-        }),
-    }
-}
-
-/// Those of events are; else the place is the first event of which it isn't.
-#[tactic(auto, unfolding(crate::specs::FirstFault::check_of, crate::specs::FirstBadExpression::move_fault))]
-fn check_moves(link: &LinkInput) -> Result<(), LinkFault>
-    ensures { result ≡ check_of (move_fault link.now) }
-{
-    match first_bad_move(link) {
-        None => Ok(()),
-        Some(event) => Err(LinkFault::BadLink {
-            rule: Rule::Expressions,
-            place: Place::Event(event),
-        }),
-    }
-}
-
-/// Those of redirects are, in whatever file; else the place is the first symbol of which it isn't.
-#[tactic(auto, unfolding(crate::specs::FirstFault::check_of, crate::specs::FirstBadExpression::redirect_fault))]
-fn check_redirects(link: &LinkInput) -> Result<(), LinkFault>
-    requires files { AreNumbered link.now.groups }
-    requires symbols { symbol_count (all_files link.now.groups) ≤ SYMBOLS }
-    ensures { result ≡ check_of (redirect_fault link.now) }
-{
     match first_bad_redirect(link) {
-        None => Ok(()),
-        Some((file, symbol)) => Err(LinkFault::BadLink {
-            rule: Rule::Expressions,
-            place: Place::Symbol(symbol_number(&link.groups, file, symbol)),
-        }),
+        None => None,
+        Some((file, symbol)) => Some(Place::Symbol(symbol_number(&link.groups, file, symbol))),
     }
 }
 
 /// The first region whose expressions aren't good.
 fn first_bad_region(link: &LinkInput) -> Option<usize>
-    ensures { result ≡ first_bad_region link.now }
+    ensures { result ≡ first_bad (is_good_region link.now) link.now.plan.regions }
 {
     link.plan
         .regions
@@ -150,7 +83,7 @@ fn first_bad_region(link: &LinkInput) -> Option<usize>
 
 /// The first section whose load address isn't good.
 fn first_bad_address(link: &LinkInput) -> Option<usize>
-    ensures { result ≡ first_bad_address link.now }
+    ensures { result ≡ first_bad (has_good_address link.now) link.now.plan.sections }
 {
     link.plan
         .sections
@@ -161,7 +94,7 @@ fn first_bad_address(link: &LinkInput) -> Option<usize>
 
 /// The first event whose expression isn't good.
 fn first_bad_move(link: &LinkInput) -> Option<usize>
-    ensures { result ≡ first_bad_move link.now }
+    ensures { result ≡ first_bad (has_good_move link.now) link.now.plan.events }
 {
     link.plan
         .events

@@ -1,38 +1,34 @@
 //! The rule on input sections: the first section that breaks it.
 
 ghost use Rattle.std.specs.Prelude.{◌≡◌, not, length, position};
+ghost use Rattle.lk_link.specs.declared.fault.Rule.TheVariants as rule;
 ghost use Rattle.lk_link.specs.Files.{AreNumbered};
 ghost use Rattle.lk_link.specs.InputRules.{is_good_input};
-ghost use Rattle.lk_check.specs.FirstBadFile.{first_bad_input};
-ghost use Rattle.lk_check.specs.FirstFault.{check_of, input_fault};
+ghost use Rattle.lk_check.specs.FirstBadFile.{first_in_files};
+ghost use Rattle.lk_check.specs.FirstFault.{first_place};
 
 use crate::good_inputs::is_good_input;
-use lk_link::fault::{LinkFault, Place, Rule};
+use lk_link::fault::Place;
 use lk_link::file::InputFile;
 use lk_link::ids::FileId;
 use lk_link::link::LinkInput;
 use lk_link::plan::Plan;
 
-/// Each input section is good; else the place is the first that isn't.
-#[tactic(auto, unfolding(crate::specs::FirstFault::check_of, crate::specs::FirstFault::input_fault))]
-pub fn check_inputs(link: &LinkInput) -> Result<(), LinkFault>
+/// The first input section that isn't good.
+#[tactic(auto, unfolding(crate::specs::FirstFault::first_place))]
+pub fn first_place(link: &LinkInput) -> Option<Place>
     requires { AreNumbered link.now.groups }
-    ensures { result ≡ check_of (input_fault link.now) }
+    ensures { result ≡ first_place link.now rule.InputSections }
 {
-    match first_bad_input(link) {
-        None => Ok(()),
-        Some((id, section)) => Err(LinkFault::BadLink {
-            rule: Rule::InputSections,
-            place: Place::Input(id, section),
-        }),
-    }
+    let (id, section) = first_bad_input(link)?;
+    Some(Place::Input(id, section))
 }
 
-/// The first input section that isn't good: its file, and its index there.
+/// The same, by its file and its index there.
 #[tactic(auto, using(crate::proofs::First::walks))]
 fn first_bad_input(link: &LinkInput) -> Option<(FileId, usize)>
     requires { AreNumbered link.now.groups }
-    ensures { result ≡ first_bad_input link.now }
+    ensures { result ≡ first_in_files (λ f. f.sections) (λ f. is_good_input link.now.plan (length f.symbols)) link.now.groups }
 {
     for at in link.groups.files() {
         if let Some(section) = bad_section(&link.plan, at.file) {

@@ -4,42 +4,40 @@
 //! file's first symbol, which the files' index has, and that index.
 
 ghost use Rattle.std.specs.Prelude.{◌≡◌, ◌+◌, ◌<◌, ◌≤◌, IsSomeAnd, not, length, position};
+ghost use Rattle.lk_link.specs.declared.fault.Rule.TheVariants as rule;
 ghost use Rattle.lk_link.specs.Files.{file_in, AreNumbered};
 ghost use Rattle.lk_link.specs.SymbolRules.{is_good_symbol, location_count};
 ghost use Rattle.lk_link.specs.Symbols.{all_files, first_symbol, symbol_count};
-ghost use Rattle.lk_check.specs.FirstBadFile.{first_bad_symbol};
-ghost use Rattle.lk_check.specs.FirstFault.{check_of, symbol_fault};
+ghost use Rattle.lk_check.specs.FirstBadFile.{first_in_files};
+ghost use Rattle.lk_check.specs.FirstFault.{first_place};
 
 use crate::events::location_count;
 use crate::good_symbols::is_good_symbol;
-use lk_link::fault::{LinkFault, Place, Rule};
+use lk_link::fault::Place;
 use lk_link::file::InputFile;
 use lk_link::groups::InputGroups;
 use lk_link::ids::FileId;
 use lk_link::limits::SYMBOLS;
 use lk_link::link::LinkInput;
 
-/// Each symbol is good; else the place is the first that isn't.
-#[tactic(auto, unfolding(crate::specs::FirstFault::check_of, crate::specs::FirstFault::symbol_fault))]
-pub fn check_symbols(link: &LinkInput) -> Result<(), LinkFault>
+/// The first symbol that isn't good.
+#[tactic(auto, unfolding(crate::specs::FirstFault::first_place))]
+pub fn first_place(link: &LinkInput) -> Option<Place>
     requires files { AreNumbered link.now.groups }
     requires symbols { symbol_count (all_files link.now.groups) ≤ SYMBOLS }
-    ensures { result ≡ check_of (symbol_fault link.now) }
+    ensures { result ≡ first_place link.now rule.Symbols }
 {
     match first_bad_symbol(link) {
-        None => Ok(()),
-        Some((file, symbol)) => Err(LinkFault::BadLink {
-            rule: Rule::Symbols,
-            place: Place::Symbol(symbol_number(&link.groups, file, symbol)),
-        }),
+        None => None,
+        Some((file, symbol)) => Some(Place::Symbol(symbol_number(&link.groups, file, symbol))),
     }
 }
 
-/// The first symbol that isn't good: its file, and its index there.
+/// The same, by its file and its index there.
 #[tactic(auto, using(crate::proofs::First::walks))]
 fn first_bad_symbol(link: &LinkInput) -> Option<(FileId, usize)>
     requires { AreNumbered link.now.groups }
-    ensures { result ≡ first_bad_symbol link.now }
+    ensures { result ≡ first_in_files (λ f. f.symbols) (is_good_symbol link.now) link.now.groups }
 {
     let locations = location_count(&link.plan);
     for at in link.groups.files() {

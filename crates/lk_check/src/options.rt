@@ -1,28 +1,26 @@
 //! The rule on options.
 
 ghost use Rattle.std.specs.Prelude.{◌≡◌};
+ghost use Rattle.lk_link.specs.declared.fault.Rule.TheVariants as rule;
 ghost use Rattle.lk_link.specs.Rules.{has_entry, is_branch_range, is_good_options};
-ghost use Rattle.lk_check.specs.FirstFault.{check_of, options_fault};
+ghost use Rattle.lk_check.specs.FirstFault.{first_place};
 
-use lk_link::fault::{LinkFault, Place, Rule};
+use lk_link::fault::Place;
 use lk_link::groups::InputGroups;
 use lk_link::ids::SymbolId;
 use lk_link::limits::{MOST_BUCKET, MOST_MERGE_GROUP, MOST_NEAR_BRANCH};
 use lk_link::link::LinkInput;
 use lk_link::options::Options;
 
-/// Numbers are in their ranges, and the entry is a symbol.
-#[tactic(auto, unfolding(crate::specs::FirstFault::check_of, crate::specs::FirstFault::options_fault))]
-pub fn check_options(link: &LinkInput) -> Result<(), LinkFault>
-    ensures { result ≡ check_of (options_fault link.now) }
+/// The options, where a number isn't in its range, or the entry is no symbol.
+#[tactic(auto, unfolding(crate::specs::FirstFault::first_place))]
+pub fn first_place(link: &LinkInput) -> Option<Place>
+    ensures { result ≡ first_place link.now rule.Options }
 {
     if is_good_options(&link.groups, &link.options) {
-        Ok(())
+        None
     } else {
-        Err(LinkFault::BadLink {
-            rule: Rule::Options,
-            place: Place::Options,
-        })
+        Some(Place::Options)
     }
 }
 

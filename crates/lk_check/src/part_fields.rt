@@ -3,34 +3,29 @@
 ghost use Rattle.std.specs.Prelude.{◌≡◌, ◌==◌, ◌&&◌, false, length, nat_lt, not, slice_get, true};
 ghost use Rattle.std.specs.List.{list_any};
 ghost use Rattle.std.specs.Option.{option_map_or};
+ghost use Rattle.lk_link.specs.declared.fault.Rule.TheVariants as rule;
 ghost use Rattle.lk_link.specs.PartFieldRules.{can_be_primary, has_good_comment, has_good_primary, is_free_with};
 ghost use Rattle.lk_link.specs.PartRules.{is_part, table_parts};
 ghost use Rattle.lk_link.specs.Parts.{all_parts};
 ghost use Rattle.lk_check.specs.FirstBadPartField.{first_bad_part_field, first_bad_table};
-ghost use Rattle.lk_check.specs.FirstFault.{check_of, part_field_fault};
+ghost use Rattle.lk_check.specs.FirstFault.{first_place};
 
 use crate::parts::is_free_part;
-use lk_link::fault::{LinkFault, Place, Rule};
+use lk_link::fault::Place;
 use lk_link::ids::PartId;
 use lk_link::limits::MOST_PRIMARY_ALIGNMENT;
 use lk_link::link::LinkInput;
 use lk_link::plan::{Plan, PlanPart, is_part};
 
-/// Each named part is good; else the place is the first that isn't, by its place among them.
-#[tactic(auto, unfolding(crate::specs::FirstFault::check_of, crate::specs::FirstFault::part_field_fault))]
-pub fn check_part_fields(link: &LinkInput) -> Result<(), LinkFault>
-    ensures { result ≡ check_of (part_field_fault link.now) }
+/// The first named part that isn't good, by its place among them.
+#[tactic(auto, unfolding(crate::specs::FirstFault::first_place))]
+pub fn first_place(link: &LinkInput) -> Option<Place>
+    ensures { result ≡ first_place link.now rule.PartFields }
 {
-    match first_bad_part_field(link) {
-        None => Ok(()),
-        Some(field) => Err(LinkFault::BadLink {
-            rule: Rule::PartFields,
-            place: Place::PartField(field),
-        }),
-    }
+    Some(Place::PartField(first_bad_part_field(link)?))
 }
 
-/// The first named part that isn't good.
+/// The same, by that place.
 #[tactic(auto, using(crate::proofs::First::firsts))]
 fn first_bad_part_field(link: &LinkInput) -> Option<usize>
     ensures { result ≡ first_bad_part_field link.now }

@@ -1,10 +1,12 @@
-//! The rules that a link keeps, in order.
+//! The rules that a link keeps, in their order.
 
-ghost use Rattle.std.specs.Prelude.{◌≡◌, ◌≤◌, length};
+ghost use Rattle.std.specs.Prelude.{◌≡◌, ◌≤◌, length, true};
+ghost use Rattle.lk_link.specs.declared.fault.Rule.TheVariants.{Page};
 ghost use Rattle.lk_link.specs.Files.{AreNumbered};
 ghost use Rattle.lk_link.specs.Symbols.{all_files, symbol_count};
-ghost use Rattle.lk_check.specs.ByGroups.{outside_fault, plan_placing_fault};
-ghost use Rattle.lk_check.specs.FirstFault.{check_of, content_fault, first_broken, file_fault, page_fault, placing_fault, plan_fault, section_or_part_fault};
+ghost use Rattle.lk_check.specs.ByGroups.{has_good_files};
+ghost use Rattle.lk_check.specs.FirstAnswer.{first_of};
+ghost use Rattle.lk_check.specs.FirstFault.{all_rules, check_of, first_place, rule_fault};
 
 use crate::{
     candidates, events, expressions, first_bad_input, first_bad_symbol, options, part_fields,
@@ -14,118 +16,112 @@ use lk_link::alignment::is_valid;
 use lk_link::fault::{LinkFault, Place, Rule};
 use lk_link::limits::{OUTPUT_SECTIONS, SEGMENTS, SYMBOLS};
 use lk_link::link::LinkInput;
-use lk_link::plan::Plan;
+
+/// The rules, in the order in which they are looked at.
+const ALL_RULES: [Rule; 14] = [
+    Rule::Options,
+    Rule::Page,
+    Rule::Sections,
+    Rule::PartFields,
+    Rule::Singletons,
+    Rule::TlsSegment,
+    Rule::Events,
+    Rule::Expressions,
+    Rule::Prelude,
+    Rule::Symbols,
+    Rule::InputSections,
+    Rule::Tables,
+    Rule::Candidates,
+    Rule::Data,
+];
+
+/// How many of them come before those on what files hold.
+const OUTSIDE_FILES: usize = 9;
 
 /// Refuses a link that breaks a rule, by the first such rule at its first place.
-#[tactic(auto, using(crate::proofs::Faults::checks), unfolding(crate::specs::FirstFault::first_broken))]
+#[tactic(auto, unfolding(crate::specs::FirstFault::check_of))]
 pub fn check_rules(link: &LinkInput) -> Result<(), LinkFault>
     requires files { AreNumbered link.now.groups }
     requires symbols { symbol_count (all_files link.now.groups) ≤ SYMBOLS }
     requires sections { length link.now.plan.sections ≤ OUTPUT_SECTIONS }
     requires segments { length link.now.plan.segments ≤ SEGMENTS }
-    ensures { result ≡ check_of (first_broken link.now) }
+    ensures { result ≡ check_of (first_of (rule_fault link.now) all_rules) }
 {
-    check_plan(link)?;
-    check_placing(link)?;
-    check_files(link)
+    match first_broken(link, &ALL_RULES, false) {
+        None => Ok(()),
+        Some(fault) => Err(fault),
+    }
 }
 
-/// Refuses a link by the first rule that is broken on anything but what its files hold, at its first place.
-#[tactic(auto, using(crate::proofs::Faults::checks), unfolding(crate::specs::ByGroups::outside_fault))]
+/// The same of a link of which all that files hold is known to be good, and isn't looked at again.
+#[tactic(auto, using(crate::proofs::GoodFiles::nothing_in_files), unfolding(crate::specs::FirstFault::check_of))]
 pub fn check_outside_files(link: &LinkInput) -> Result<(), LinkFault>
     requires files { AreNumbered link.now.groups }
+    requires symbols { symbol_count (all_files link.now.groups) ≤ SYMBOLS }
     requires sections { length link.now.plan.sections ≤ OUTPUT_SECTIONS }
     requires segments { length link.now.plan.segments ≤ SEGMENTS }
-    ensures { result ≡ check_of (outside_fault link.now) }
+    requires good { has_good_files link.now ≡ true }
+    ensures { result ≡ check_of (first_of (rule_fault link.now) all_rules) }
 {
-    check_plan(link)?;
-    check_plan_placing(link)?;
-    prelude::check_prelude(link)
+    match first_broken(link, &ALL_RULES[..OUTSIDE_FILES], true) {
+        None => Ok(()),
+        Some(fault) => Err(fault),
+    }
 }
 
-/// Refuses a link whose segments, events or expressions of the plan break a rule, by the first such rule at its first place.
-#[tactic(auto, using(crate::proofs::Faults::checks), unfolding(crate::specs::ByGroups::plan_placing_fault))]
-fn check_plan_placing(link: &LinkInput) -> Result<(), LinkFault>
-    requires sections { length link.now.plan.sections ≤ OUTPUT_SECTIONS }
-    requires segments { length link.now.plan.segments ≤ SEGMENTS }
-    ensures { result ≡ check_of (plan_placing_fault link.now) }
-{
-    segments::check_segments(&link.plan)?;
-    events::check_events(link)?;
-    expressions::check_plan_expressions(link)
-}
-
-/// Refuses a link whose options or plan break a rule, by the first such rule at its first place.
-#[tactic(auto, using(crate::proofs::Faults::checks), unfolding(crate::specs::FirstFault::plan_fault))]
-fn check_plan(link: &LinkInput) -> Result<(), LinkFault>
-    ensures { result ≡ check_of (plan_fault link.now) }
-{
-    options::check_options(link)?;
-    check_page(&link.plan)?;
-    check_sections_and_parts(link)
-}
-
-/// Refuses a link whose output sections, or parts and sections that its plan names, break a rule, by the first such rule at its
-/// first place.
-#[tactic(auto, using(crate::proofs::Faults::checks), unfolding(crate::specs::FirstFault::section_or_part_fault))]
-fn check_sections_and_parts(link: &LinkInput) -> Result<(), LinkFault>
-    ensures { result ≡ check_of (section_or_part_fault link.now) }
-{
-    sections::check_sections(&link.plan)?;
-    part_fields::check_part_fields(link)?;
-    singletons::check_singletons(link)
-}
-
-/// Refuses a link whose segments, events or expressions break a rule, by the first such rule at its first place.
-#[tactic(auto, using(crate::proofs::Faults::checks), unfolding(crate::specs::FirstFault::placing_fault))]
-fn check_placing(link: &LinkInput) -> Result<(), LinkFault>
+/// The fault of the first of these rules that is broken. Redirects aren't looked at where all that files hold is known to be good.
+#[tactic(auto, using(crate::proofs::First::places))]
+fn first_broken(link: &LinkInput, rules: &[Rule], good_files: bool) -> Option<LinkFault>
     requires files { AreNumbered link.now.groups }
     requires symbols { symbol_count (all_files link.now.groups) ≤ SYMBOLS }
     requires sections { length link.now.plan.sections ≤ OUTPUT_SECTIONS }
     requires segments { length link.now.plan.segments ≤ SEGMENTS }
-    ensures { result ≡ check_of (placing_fault link.now) }
+    requires good { good_files ≡ true → has_good_files link.now ≡ true }
+    ensures { result ≡ first_of (rule_fault link.now) rules.now }
 {
-    segments::check_segments(&link.plan)?;
-    events::check_events(link)?;
-    expressions::check_expressions(link)
+    for rule in rules {
+        if let Some(place) = first_place(link, *rule, good_files) {
+            return Some(LinkFault::BadLink { rule: *rule, place });
+        }
+    }
+    None
 }
 
-/// Refuses a link whose files break a rule, by the first such rule at its first place.
-#[tactic(auto, using(crate::proofs::Faults::checks), unfolding(crate::specs::FirstFault::file_fault))]
-fn check_files(link: &LinkInput) -> Result<(), LinkFault>
+/// Where a link breaks a rule first.
+fn first_place(link: &LinkInput, rule: Rule, good_files: bool) -> Option<Place>
     requires files { AreNumbered link.now.groups }
     requires symbols { symbol_count (all_files link.now.groups) ≤ SYMBOLS }
-    ensures { result ≡ check_of (file_fault link.now) }
+    requires sections { length link.now.plan.sections ≤ OUTPUT_SECTIONS }
+    requires segments { length link.now.plan.segments ≤ SEGMENTS }
+    requires good { good_files ≡ true → has_good_files link.now ≡ true }
+    ensures { result ≡ first_place link.now rule }
 {
-    prelude::check_prelude(link)?;
-    first_bad_symbol::check_symbols(link)?;
-    check_contents(link)
+    match rule {
+        Rule::Options => options::first_place(link),
+        Rule::Page => page_place(link),
+        Rule::Sections => sections::first_place(link),
+        Rule::PartFields => part_fields::first_place(link),
+        Rule::Singletons => singletons::first_place(link),
+        Rule::TlsSegment => segments::first_place(link),
+        Rule::Events => events::first_place(link),
+        Rule::Expressions => expressions::first_place(link, good_files),
+        Rule::Prelude => prelude::first_place(link),
+        Rule::Symbols => first_bad_symbol::first_place(link),
+        Rule::InputSections => first_bad_input::first_place(link),
+        Rule::Tables => tables::first_place(link),
+        Rule::Candidates => candidates::first_place(link),
+        Rule::Data => section_data::first_place(link),
+    }
 }
 
-/// Refuses a link whose files hold input sections, relocations, candidates or data that break a rule, by the first such rule at its
-/// first place.
-#[tactic(auto, using(crate::proofs::Faults::checks), unfolding(crate::specs::FirstFault::content_fault))]
-fn check_contents(link: &LinkInput) -> Result<(), LinkFault>
-    requires { AreNumbered link.now.groups }
-    ensures { result ≡ check_of (content_fault link.now) }
+/// The plan, where its page is no power of two up to 65,536.
+#[tactic(auto, unfolding(crate::specs::FirstFault::first_place))]
+fn page_place(link: &LinkInput) -> Option<Place>
+    ensures { result ≡ first_place link.now Page }
 {
-    first_bad_input::check_inputs(link)?;
-    tables::check_tables(link)?;
-    candidates::check_candidates(link)?;
-    section_data::check_data(link)
-}
-
-/// The page is a power of two up to 65,536.
-#[tactic(auto, unfolding(crate::specs::FirstFault::check_of, crate::specs::FirstFault::page_fault))]
-fn check_page(plan: &Plan) -> Result<(), LinkFault>
-    ensures { result ≡ check_of (page_fault plan.now) }
-{
-    if is_valid(plan.page) {
-        Ok(())
+    if is_valid(link.plan.page) {
+        None
     } else {
-        Err(LinkFault::BadLink {
-            rule: Rule::Page,
-            place: Place::Plan,
-        })
+        Some(Place::Plan)
     }
 }

@@ -1,38 +1,33 @@
 //! The rule on data: the first section for which other data are given than its size says.
 
 ghost use Rattle.std.specs.Prelude.{◌≡◌, not, position};
+ghost use Rattle.lk_link.specs.declared.fault.Rule.TheVariants as rule;
 ghost use Rattle.lk_link.specs.DataRules.{has_whole_data};
 ghost use Rattle.lk_link.specs.Files.{AreNumbered};
-ghost use Rattle.lk_check.specs.FirstBadFile.{first_bad_data};
-ghost use Rattle.lk_check.specs.FirstFault.{check_of, data_fault};
+ghost use Rattle.lk_check.specs.FirstBadFile.{first_in_files};
+ghost use Rattle.lk_check.specs.FirstFault.{first_place};
 
-use lk_link::fault::{LinkFault, Place, Rule};
+use lk_link::fault::Place;
 use lk_link::file::InputFile;
 use lk_link::ids::FileId;
 use lk_link::link::LinkInput;
 use lk_link::section::InputSection;
 
-/// Data that are given for a section that isn't merged are as many bytes as its size, also where it is discarded; else the place is the
-/// first section of which that isn't so.
-#[tactic(auto, unfolding(crate::specs::FirstFault::check_of, crate::specs::FirstFault::data_fault))]
-pub fn check_data(link: &LinkInput) -> Result<(), LinkFault>
+/// The first section that isn't merged whose data are given, and aren't as many bytes as its size, also where it is discarded.
+#[tactic(auto, unfolding(crate::specs::FirstFault::first_place))]
+pub fn first_place(link: &LinkInput) -> Option<Place>
     requires { AreNumbered link.now.groups }
-    ensures { result ≡ check_of (data_fault link.now) }
+    ensures { result ≡ first_place link.now rule.Data }
 {
-    match first_bad_data(link) {
-        None => Ok(()),
-        Some((id, section)) => Err(LinkFault::BadLink {
-            rule: Rule::Data,
-            place: Place::Input(id, section),
-        }),
-    }
+    let (id, section) = first_bad_data(link)?;
+    Some(Place::Input(id, section))
 }
 
-/// The first input section whose data aren't as many bytes as its size: its file, and its index there.
+/// The same, by its file and its index there.
 #[tactic(auto, using(crate::proofs::First::walks))]
 fn first_bad_data(link: &LinkInput) -> Option<(FileId, usize)>
     requires { AreNumbered link.now.groups }
-    ensures { result ≡ first_bad_data link.now }
+    ensures { result ≡ first_in_files (λ f. f.sections) (λ f. has_whole_data) link.now.groups }
 {
     for at in link.groups.files() {
         if let Some(section) = bad_section(at.file) {

@@ -2,33 +2,30 @@
 
 ghost use Rattle.std.specs.Prelude.{◌≡◌, nat_lt};
 ghost use Rattle.std.specs.List.{list_all, zip};
+ghost use Rattle.lk_link.specs.declared.fault.Rule.TheVariants as rule;
 ghost use Rattle.lk_link.specs.Alignments.{is_alignment};
 ghost use Rattle.lk_link.specs.Rules.{falls, has_primary, is_good_section, is_primary};
-ghost use Rattle.lk_check.specs.FirstFault.{check_of, first_bad_section, section_fault};
+ghost use Rattle.lk_check.specs.FirstAnswer.{first_bad};
+ghost use Rattle.lk_check.specs.FirstFault.{first_place};
 
 use lk_link::alignment::is_valid;
-use lk_link::fault::{LinkFault, Place, Rule};
+use lk_link::fault::Place;
 use lk_link::ids::OutputSectionId;
 use lk_link::limits::ATTRIBUTE_SETS;
-use lk_link::plan::{Plan, PlanPart, PlanSection, PlanSections};
-
-/// Each section is good; else the place is the first that isn't.
-#[tactic(auto, unfolding(crate::specs::FirstFault::check_of, crate::specs::FirstFault::section_fault))]
-pub fn check_sections(plan: &Plan) -> Result<(), LinkFault>
-    ensures { result ≡ check_of (section_fault plan.now) }
-{
-    match first_bad_section(&plan.sections) {
-        None => Ok(()),
-        Some(section) => Err(LinkFault::BadLink {
-            rule: Rule::Sections,
-            place: Place::Section(section),
-        }),
-    }
-}
+use lk_link::link::LinkInput;
+use lk_link::plan::{PlanPart, PlanSection, PlanSections};
 
 /// The first section that isn't good.
+#[tactic(auto, unfolding(crate::specs::FirstFault::first_place))]
+pub fn first_place(link: &LinkInput) -> Option<Place>
+    ensures { result ≡ first_place link.now rule.Sections }
+{
+    Some(Place::Section(first_bad_section(&link.plan.sections)?))
+}
+
+/// The same, by its number.
 fn first_bad_section(sections: &PlanSections) -> Option<usize>
-    ensures { result ≡ first_bad_section sections.now }
+    ensures { result ≡ first_bad (is_good_section sections.now) sections.now }
 {
     sections
         .as_slice()

@@ -1,26 +1,22 @@
 //! The rule on thread-local segments.
 
 ghost use Rattle.std.specs.Prelude.{◌≡◌};
-ghost use Rattle.lk_check.specs.FirstFault.{check_of, first_tls, second_tls, tls_fault};
+ghost use Rattle.lk_link.specs.declared.fault.Rule.TheVariants as rule;
+ghost use Rattle.lk_check.specs.FirstFault.{first_place, first_tls, second_tls};
 
-use lk_link::fault::{LinkFault, Place, Rule};
-use lk_link::plan::{Plan, PlanSegment};
+use lk_link::fault::Place;
+use lk_link::link::LinkInput;
+use lk_link::plan::PlanSegment;
 
-/// At most one segment is for thread-local data; else the place is the second that is.
-#[tactic(auto, unfolding(crate::specs::FirstFault::check_of, crate::specs::FirstFault::tls_fault))]
-pub fn check_segments(plan: &Plan) -> Result<(), LinkFault>
-    ensures { result ≡ check_of (tls_fault plan.now) }
+/// The second segment that is for thread-local data, where more than one is.
+#[tactic(auto, unfolding(crate::specs::FirstFault::first_place))]
+pub fn first_place(link: &LinkInput) -> Option<Place>
+    ensures { result ≡ first_place link.now rule.TlsSegment }
 {
-    match second_tls(plan.segments.as_slice()) {
-        None => Ok(()),
-        Some(segment) => Err(LinkFault::BadLink {
-            rule: Rule::TlsSegment,
-            place: Place::Segment(segment),
-        }),
-    }
+    Some(Place::Segment(second_tls(link.plan.segments.as_slice())?))
 }
 
-/// The second segment that is for thread-local data.
+/// The same, by its number.
 fn second_tls(segments: &[PlanSegment]) -> Option<usize>
     ensures { result ≡ second_tls segments.now }
 {

@@ -1,24 +1,22 @@
 //! The rule on the section of singletons.
 
 ghost use Rattle.std.specs.Prelude.{◌≡◌};
+ghost use Rattle.lk_link.specs.declared.fault.Rule.TheVariants as rule;
 ghost use Rattle.lk_link.specs.Rules.{has_good_singletons};
-ghost use Rattle.lk_check.specs.FirstFault.{check_of, singletons_fault};
+ghost use Rattle.lk_check.specs.FirstFault.{first_place};
 
-use lk_link::fault::{LinkFault, Place, Rule};
+use lk_link::fault::Place;
 use lk_link::link::LinkInput;
 
-/// The section of singletons, if it is named, is one of the plan's, and output is partial.
-#[tactic(auto, unfolding(crate::specs::FirstFault::check_of, crate::specs::FirstFault::singletons_fault))]
-pub fn check_singletons(link: &LinkInput) -> Result<(), LinkFault>
-    ensures { result ≡ check_of (singletons_fault link.now) }
+/// The plan, where the section of singletons is named, and is none of the plan's or output isn't partial.
+#[tactic(auto, unfolding(crate::specs::FirstFault::first_place))]
+pub fn first_place(link: &LinkInput) -> Option<Place>
+    ensures { result ≡ first_place link.now rule.Singletons }
 {
     if has_good_singletons(link) {
-        Ok(())
+        None
     } else {
-        Err(LinkFault::BadLink {
-            rule: Rule::Singletons,
-            place: Place::Plan,
-        })
+        Some(Place::Plan)
     }
 }
 

@@ -1,12 +1,13 @@
 //! The rule on tables: the first section whose relocations want entries of a table that the plan gives no part.
 
 ghost use Rattle.std.specs.Prelude.{◌≡◌, not, position};
+ghost use Rattle.lk_link.specs.declared.fault.Rule.TheVariants as rule;
 ghost use Rattle.lk_link.specs.Files.{AreNumbered};
 ghost use Rattle.lk_link.specs.TableRules.{has_tables, has_tables_for};
-ghost use Rattle.lk_check.specs.FirstBadFile.{first_bad_tables};
-ghost use Rattle.lk_check.specs.FirstFault.{check_of, table_fault};
+ghost use Rattle.lk_check.specs.FirstBadFile.{first_in_files};
+ghost use Rattle.lk_check.specs.FirstFault.{first_place};
 
-use lk_link::fault::{LinkFault, Place, Rule};
+use lk_link::fault::Place;
 use lk_link::file::InputFile;
 use lk_link::ids::FileId;
 use lk_link::link::LinkInput;
@@ -14,27 +15,21 @@ use lk_link::plan::NamedParts;
 use lk_link::relocation::RelocationKind;
 use lk_link::section::InputSection;
 
-/// The tables that relocations want entries of have parts, also those of discarded sections; else the place is the first section of
-/// which that isn't so.
-#[tactic(auto, unfolding(crate::specs::FirstFault::check_of, crate::specs::FirstFault::table_fault))]
-pub fn check_tables(link: &LinkInput) -> Result<(), LinkFault>
+/// The first input section that wants an entry of a table without a part, also where it is discarded.
+#[tactic(auto, unfolding(crate::specs::FirstFault::first_place))]
+pub fn first_place(link: &LinkInput) -> Option<Place>
     requires { AreNumbered link.now.groups }
-    ensures { result ≡ check_of (table_fault link.now) }
+    ensures { result ≡ first_place link.now rule.Tables }
 {
-    match first_bad_tables(link) {
-        None => Ok(()),
-        Some((id, section)) => Err(LinkFault::BadLink {
-            rule: Rule::Tables,
-            place: Place::Input(id, section),
-        }),
-    }
+    let (id, section) = first_bad_tables(link)?;
+    Some(Place::Input(id, section))
 }
 
-/// The first input section that wants an entry of a table without a part: its file, and its index there.
+/// The same, by its file and its index there.
 #[tactic(auto, using(crate::proofs::First::walks))]
 fn first_bad_tables(link: &LinkInput) -> Option<(FileId, usize)>
     requires { AreNumbered link.now.groups }
-    ensures { result ≡ first_bad_tables link.now }
+    ensures { result ≡ first_in_files (λ f. f.sections) (λ f. has_tables link.now.plan.named) link.now.groups }
 {
     for at in link.groups.files() {
         if let Some(section) = bad_section(&link.plan.named, at.file) {

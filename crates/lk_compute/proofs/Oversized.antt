@@ -9,12 +9,13 @@ use Rattle.lk_sizes.specs.declared.error.SizeError.TheVariants as size
 use Rattle.lk_sizes.specs.Contents.{size_refusal, sum_refusal}
 use Rattle.lk_sizes.specs.Sizing.{GivesAdded, GivesOwners}
 use Rattle.lk_layout.specs.declared.error.LayoutError.{LayoutError}
-use Rattle.lk_layout.specs.Defined.{IsLiveAnswer, WithMemory, sizes_refusal}
+use Rattle.lk_layout.specs.Defined.{WithMemory}
 use Rattle.lk_layout.specs.Errors.{size_error}
 use Rattle.lk_layout.specs.Machines.{Machine}
 use Rattle.lk_layout.specs.Made.{filling_for}
 use Rattle.lk_resolutions.specs.OutputContent.{output_filling}
 use Rattle.lk_layout.proofs.Answering.{out_of_memory, unless_some}
+use Rattle.lk_layout.proofs.Refusals.{IsLiveAnswer, sizes_refusal}
 
 pub first_none : (a b : Option SizeError) → first_some a b ≡ None → a ≡ None
 unfolding first_some

@@ -12,11 +12,12 @@ use Rattle.lk_relax.specs.Stages.{Stage, first_scan, has_ended, is_done, refusal
 use Rattle.lk_layout.specs.declared.error.LayoutError.{LayoutError}
 use Rattle.lk_layout.specs.declared.error.LayoutError.TheVariants.{NoMemory}
 use Rattle.lk_layout.specs.LayoutRecord.{LayoutRecord}
-use Rattle.lk_layout.specs.Defined.{IsPlacedAnswer, IsSizedAnswer, WithMemory, walk_refusal}
+use Rattle.lk_layout.specs.Defined.{WithMemory}
 use Rattle.lk_layout.specs.Errors.{place_error}
 use Rattle.lk_layout.specs.Machines.{Machine}
 use Rattle.lk_layout.specs.Made.{Made, made_of, relaxing_for}
 use Rattle.lk_layout.proofs.Answering.{out_of_memory, unless_some}
+use Rattle.lk_layout.proofs.Refusals.{IsPlacedAnswer, IsSizedAnswer, walk_refusal}
 
 -- the refusal at the end of relaxation
 pub end_refused : (machine : Machine) (link : LinkInput) (live : Live) (e : PlaceError) → EndsRefused (relaxing_for machine link live) e → IsSizedAnswer machine link live (Err (place_error e))

@@ -13,8 +13,7 @@ use Rattle.lk_layout.specs.declared.stages.PlacedLink.{PlacedLink}
 use Rattle.lk_layout.specs.declared.stages.SizedLink.{SizedLink}
 use Rattle.lk_layout.specs.declared.stages.SpannedLink.{SpannedLink}
 use Rattle.lk_layout.specs.declared.stages.ToldLink.{ToldLink}
-use Rattle.lk_layout.specs.Defined.{Gives, IsCheckedAnswer, IsDefined, IsLiveAnswer, IsMergedAnswer, IsPlacedAnswer, IsSizedAnswer, IsSpannedAnswer, WithMemory}
-use Rattle.lk_layout.specs.Defined.{branch_refusal, fault_refusal, joining_refusal, layout_of, offsets_refusal, references_error, references_refusal, segment_refusal, sites_refusal, sizes_refusal, walk_refusal}
+use Rattle.lk_layout.specs.Defined.{Gives, IsDefined, WithMemory, layout_of, references_refusal}
 use Rattle.lk_layout.specs.Errors.{fault_error, place_error, size_error}
 use Rattle.lk_layout.specs.Made.{Made, filling_for}
 use Rattle.lk_layout.specs.Merging.{merging_refusal}
@@ -22,6 +21,7 @@ use Rattle.lk_compute.specs.MergingWords.{GivesImages}
 use Rattle.lk_layout.specs.Stages.{IsChecked, IsKept, IsMerged, IsPlacedLink, IsSized, IsSpannedLink, IsToldLink, Reaches, made_placed, made_spanned, made_told}
 use Rattle.lk_layout.specs.Redirects.{redirects_refusal}
 use Rattle.lk_layout.proofs.Answering.{none_chosen, none_past, none_redirected, none_unreached, passed_on, unless_none, unless_some}
+use Rattle.lk_layout.proofs.Refusals.{IsCheckedAnswer, IsLiveAnswer, IsMergedAnswer, IsPlacedAnswer, IsSizedAnswer, IsSpannedAnswer, branch_refusal, fault_refusal, joining_refusal, offsets_refusal, segment_refusal, sites_refusal, sizes_refusal, unmet_refusal, walk_refusal}
 
 pub from_checked : (machine : Machine) (link : LinkInput) (answer : Result LayoutRecord LayoutError) → IsChecked link
     → WithMemory (IsCheckedAnswer machine link) answer → Gives machine link answer
@@ -39,7 +39,7 @@ pub from_kept : (machine : Machine) (link : LinkInput) (kept : KeptLink) (answer
     → WithMemory (IsLiveAnswer machine link kept.live) answer → Gives machine link answer
 from_kept machine link kept answer is given =
     from_merged machine link kept.images answer is.merged (passed_on (IsLiveAnswer machine link kept.live) (IsMergedAnswer machine link) answer (λ a h.
-    unless_none (references_refusal link) a _ (ap references_error is.met) (kept.live, is.live, h)) given)
+    unless_none (unmet_refusal link) a _ (ap references_refusal is.met) (kept.live, is.live, h)) given)
 
 -- where all fits
 pub from_fitting : (machine : Machine) (link : LinkInput) (kept : KeptLink) (answer : Result LayoutRecord LayoutError) → IsKept link kept
@@ -68,7 +68,7 @@ pub from_spanned : (machine : Machine) (link : LinkInput) (spanned : SpannedLink
 from_spanned machine link spanned answer is given =
     let made : Made = made_spanned is in
     from_placed machine link spanned.placed answer is.placed (passed_on (IsSpannedAnswer made) (IsPlacedAnswer made) answer (λ a h.
-    unless_none (joining_refusal made) a _ is.fits (unless_none (segment_refusal made) a _ is.covered h)) given)
+    unless_none (joining_refusal made) a _ (ap (option_map place_error) is.fits) (unless_none (segment_refusal made) a _ (ap (option_map place_error) is.covered) h)) given)
 
 -- what is told is the layout
 pub from_told : (machine : Machine) (link : LinkInput) (told : ToldLink) (layout : LayoutRecord) (is : IsToldLink machine link told) → layout ≡ layout_of (made_told is)

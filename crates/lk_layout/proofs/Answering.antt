@@ -12,8 +12,7 @@ use Rattle.lk_layout.specs.declared.error.LayoutError.{LayoutError}
 use Rattle.lk_layout.specs.declared.error.LayoutError.TheVariants.{NoMemory}
 use Rattle.lk_layout.specs.LayoutRecord.{LayoutRecord}
 use Rattle.lk_link.specs.declared.resolution.Resolution.{Resolution}
-use Rattle.lk_layout.specs.Defined.{Gives, IsMergedAnswer, IsPlacedAnswer, IsSpannedAnswer, Unless, WithMemory, fault_refusal, is_memory, joining_refusal, made_sections}
-use Rattle.lk_layout.specs.Defined.{branch_refusal, made_standing, offsets_refusal, references_error, references_refusal, segment_refusal, sites_refusal}
+use Rattle.lk_layout.specs.Defined.{Gives, Unless, WithMemory, is_memory, made_sections, made_standing, references_refusal}
 use Rattle.lk_layout.specs.Errors.{branch_error, fault_error, gc_error, offset_error, place_error, site_error}
 use Rattle.lk_resolutions.specs.declared.outside.MergeOffsetPlace.{MergeOffsetPlace}
 use Rattle.lk_resolutions.specs.Outside.{merge_offsets}
@@ -42,6 +41,7 @@ use Rattle.lk_layout.specs.Stages.{Reaches}
 use Rattle.lk_layout.specs.Thunks.{made_branching}
 use Rattle.lk_thunk_plan.specs.declared.check.BranchPlace.{BranchPlace}
 use Rattle.lk_thunk_plan.specs.Branches.{unreached}
+use Rattle.lk_layout.proofs.Refusals.{IsMergedAnswer, IsPlacedAnswer, IsSpannedAnswer, branch_refusal, fault_refusal, joining_refusal, offsets_refusal, segment_refusal, sites_refusal, unmet_refusal}
 
 -- the exit of a `?`: what holds of each error that may come through it
 pub err_exit : {X : Type 0} (Q : Result X LayoutError → Type 0) (P : LayoutError → Type 0) (r : Result X LayoutError) → IsErrAnd r P → ((e : LayoutError) → P e → Q (Err e)) → Q r
@@ -106,7 +106,7 @@ pub unmet : (machine : Machine) (link : LinkInput) (g : GcError) (e : LayoutErro
 unmet machine link gc.NoMemory e h is = out_of_memory (IsMergedAnswer machine link) e is
 unmet machine link (gc.References []) e h is = absurd (h.1 refl)
 unmet machine link (gc.References (fault ∷ faults)) e h is = λ some.
-    unless_some (references_refusal link) e _ (ap references_error (sym h.0) ∙ ap (λ (x : LayoutError). Some x) (sym is))
+    unless_some (unmet_refusal link) e _ (ap references_refusal (sym h.0) ∙ ap (λ (x : LayoutError). Some x) (sym is))
 
 -- ---- behind the placement
 

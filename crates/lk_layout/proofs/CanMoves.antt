@@ -20,7 +20,6 @@ use Rattle.lk_sizes.specs.Emitted.{active_segments, is_emitted}
 use Rattle.lk_tables.specs.declared.header_info.HeaderInfo.{HeaderInfo}
 use Rattle.lk_resolutions.specs.OutputContent.{output_content}
 use Rattle.lk_layout.specs.declared.stages.ToldLink.{ToldLink}
-use Rattle.lk_layout.specs.Errors.{place_error}
 use Rattle.lk_layout.specs.FileRanges.{AreHeld, file_bytes, moved_parts, moved_sections}
 use Rattle.lk_layout.specs.Machines.{Machine}
 use Rattle.lk_layout.specs.Made.{relaxing_for}
@@ -28,7 +27,6 @@ use Rattle.lk_layout.specs.Movable.{CanMove}
 use Rattle.lk_layout.specs.Stages.{IsToldLink}
 use Rattle.lk_layout.proofs.HeldParts.{sections_hold}
 use Rattle.lk_layout.proofs.Moving.{moved_count, sections_count, sections_move, still_held, still_joined}
-use Rattle.lk_layout.proofs.OneAnswer.{none_of}
 use Rattle.lk_layout.proofs.SameMemory.{refused_alike, same_memories}
 use Rattle.lk_layout.proofs.Settings.{active_there, length-section_records, ready}
 
@@ -68,12 +66,11 @@ told_can_move disjoint machine link told is =
     let same : found.records.sections ≡ section_records sections found.records.parts = placed.are.sections in
     let stands : section_records sections found.records.parts ≡ section_records sections placed.stage.records = ap (section_records sections) placed.records in
     let whole : found.records.sections ≡ section_records sections placed.stage.records = same ∙ stands in
-    let joined : merge_refusal sections (section_records sections placed.stage.records) ≡ None
-    = none_of place_error (merge_refusal sections (section_records sections placed.stage.records)) spanned.fits in
+    let joined : merge_refusal sections (section_records sections placed.stage.records) ≡ None = spanned.fits in
     let emitted : ℕ → Bool = is_emitted (output_content machine.sizes link found.kept.live) in
     let active : header.active_segment_ids ≡ active_segments (output_content machine.sizes link found.kept.live) = ap (λ (h : HeaderInfo). h.active_segment_ids) placed.owners.header in
     let covered : segments_refusal FromSections link (section_records sections placed.stage.records) emitted (active_segments (output_content machine.sizes link found.kept.live)) ≡ None
-    = none_of place_error (segments_refusal FromSections link (section_records sections placed.stage.records) emitted (active_segments (output_content machine.sizes link found.kept.live))) spanned.covered in
+    = spanned.covered in
     record {
       refreshes = record {
         good = good;

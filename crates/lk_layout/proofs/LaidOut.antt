@@ -23,7 +23,7 @@ use Rattle.lk_place.specs.Segments.{first_outside, outside_refusal, section_reco
 use Rattle.lk_sizes.specs.Emitted.{active_segments, is_emitted}
 use Rattle.lk_layout.specs.declared.error.LayoutError.{LayoutError}
 use Rattle.lk_layout.specs.LayoutRecord.{LayoutRecord}
-use Rattle.lk_layout.specs.Defined.{IsDefined, Unless, branch_refusal, references_error, references_refusal, fault_refusal, joining_refusal, layout_of, made_standing, offsets_refusal, segment_refusal, sites_refusal, sizes_refusal, walk_refusal}
+use Rattle.lk_layout.specs.Defined.{IsDefined, Unless, references_refusal, layout_of, made_standing}
 use Rattle.lk_layout.specs.Errors.{branch_error, merge_error, offset_error, place_error, site_error}
 use Rattle.lk_layout.specs.Redirects.{made_redirected, made_resolutions, redirects_refusal, refused_by, unless_refused}
 use Rattle.lk_layout.specs.Thunks.{made_branching}
@@ -34,6 +34,7 @@ use Rattle.lk_resolutions.specs.Outside.{merge_offsets}
 use Rattle.lk_layout.specs.Laws.{LaidOutLinksAreWellFormed}
 use Rattle.lk_layout.specs.Made.{Made, made_of, relaxing_for}
 use Rattle.lk_layout.proofs.OneAnswer.{none_of, unrefused}
+use Rattle.lk_layout.proofs.Refusals.{branch_refusal, fault_refusal, joining_refusal, offsets_refusal, segment_refusal, sites_refusal, sizes_refusal, unmet_refusal, walk_refusal}
 
 -- a link that is well formed, with what is live, the end of its relaxation, whose placement is whole, and the layout of these
 pub record IsLaidOut (machine : Machine) (link : LinkInput) (layout : LayoutRecord) : Type 0 where
@@ -63,7 +64,7 @@ passed None layout P h = (refl, h)
 passed (Some e) layout P h = absurd (cc)
 
 -- where none is refused, all references are met
-all_met : (faults : List ReferenceFault) → references_error faults ≡ None → faults ≡ []
+all_met : (faults : List ReferenceFault) → references_refusal faults ≡ None → faults ≡ []
 all_met [] h = refl
 all_met (fault ∷ faults) h = absurd (cc)
 
@@ -86,7 +87,7 @@ pub laid_out : WellFormedExactlyUnfaulted → RelaxedStands → (machine : Machi
 laid_out exactly stands machine link layout defined =
     let fault = passed (fault_refusal link) layout _ defined in
     let whole = passed (merging_refusal link) layout _ fault.1 in
-    let met = passed (references_refusal link) layout _ whole.1 in
+    let met = passed (unmet_refusal link) layout _ whole.1 in
     let reached = met.1 in
     let sizes = passed (sizes_refusal machine link reached.0) layout _ reached.2 in
     let end = sizes.1 in

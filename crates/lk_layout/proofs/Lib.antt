@@ -8,6 +8,7 @@ mod MovedEnds
 pub mod Moving
 pub mod OneAnswer
 pub mod PlacedSites
+pub mod Refusals
 pub mod SameMemory
 pub mod Settings
 mod UsersFound

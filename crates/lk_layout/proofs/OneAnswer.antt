@@ -11,14 +11,13 @@ use Rattle.lk_link.specs.WellFormed.{IsWellFormed}
 use Rattle.lk_relax.specs.Stages.{RelaxedExists, RelaxedIsOne}
 use Rattle.lk_layout.specs.declared.error.LayoutError.{LayoutError}
 use Rattle.lk_layout.specs.LayoutRecord.{LayoutRecord}
-use Rattle.lk_layout.specs.Defined.{IsCheckedAnswer, IsLiveAnswer, IsMadeAnswer, IsMergedAnswer, IsPlacedAnswer, IsSizedAnswer, IsSpannedAnswer, Unless, branch_refusal, fault_refusal}
-use Rattle.lk_layout.specs.Defined.{joining_refusal, layout_of, offsets_refusal, references_refusal, segment_refusal, sites_refusal, sizes_refusal}
-use Rattle.lk_layout.specs.Defined.{walk_refusal}
+use Rattle.lk_layout.specs.Defined.{IsMadeAnswer, Unless, layout_of}
 use Rattle.lk_layout.specs.Made.{Made, made_of, relaxing_for}
 use Rattle.lk_layout.specs.Errors.{fault_error}
 use Rattle.lk_layout.specs.Merging.{merging_refusal}
 use Rattle.lk_layout.specs.Redirects.{redirects_refusal}
 use Rattle.lk_layout.specs.Laws.{DefinedAnswerExists, DefinedAnswerIsOne}
+use Rattle.lk_layout.proofs.Refusals.{IsCheckedAnswer, IsLiveAnswer, IsMergedAnswer, IsPlacedAnswer, IsSizedAnswer, IsSpannedAnswer, branch_refusal, fault_refusal, joining_refusal, offsets_refusal, segment_refusal, sites_refusal, sizes_refusal, unmet_refusal, walk_refusal}
 
 -- what isn't refused isn't there
 pub none_of : {X : Type 0} (f : X → LayoutError) (o : Option X) → option_map f o ≡ None → o ≡ None
@@ -56,7 +55,7 @@ sized_exists relaxed machine link live good =
 
 merged_exists : LiveExists → RelaxedExists → (machine : Machine) (link : LinkInput) → IsWellFormed link → (answer : Result LayoutRecord LayoutError) × IsMergedAnswer machine link answer
 merged_exists live relaxed machine link good =
-    unless_exists (references_refusal link) (λ a. (l : Live) × AreLive link l × IsLiveAnswer machine link l a) (λ none.
+    unless_exists (unmet_refusal link) (λ a. (l : Live) × AreLive link l × IsLiveAnswer machine link l a) (λ none.
     let l = live link good in
     let rest = unless_exists (sizes_refusal machine link l.0) (IsSizedAnswer machine link l.0) (λ none. sized_exists relaxed machine link l.0 good) in
     (rest.0, (l.0, l.1, rest.1)))
@@ -97,7 +96,7 @@ sized_one relaxed machine link live a b good h g =
 merged_one : LiveIsOne → RelaxedIsOne → (machine : Machine) (link : LinkInput) (a b : Result LayoutRecord LayoutError) → IsWellFormed link
     → IsMergedAnswer machine link a → IsMergedAnswer machine link b → a ≡ b
 merged_one live relaxed machine link a b good h g =
-    unless_one (references_refusal link) a b _ _ h g (λ met x y.
+    unless_one (unmet_refusal link) a b _ _ h g (λ met x y.
     let one : x.0 ≡ y.0 = live link x.0 y.0 x.1 y.1 in
     let there : IsLiveAnswer machine link y.0 a = subst (λ l. IsLiveAnswer machine link l a) one x.2 in
     unless_one (sizes_refusal machine link y.0) a b _ _ there y.2 (λ none u v. sized_one relaxed machine link y.0 a b good u v))

@@ -48,53 +48,14 @@ abbrev pub Unless : Option LayoutError → Result LayoutRecord LayoutError → T
 Unless None answer P = P
 Unless (Some e) answer P = answer ≡ Err e
 
--- ---- refusals
-
--- a link that isn't well formed
-abbrev pub fault_refusal : LinkInput → Option LayoutError
-fault_refusal link = option_map fault_error (first_fault link)
-
 -- references that can't be met, if there are any
-abbrev pub references_error : List ReferenceFault → Option LayoutError
-references_error [] = None
-references_error (fault ∷ faults) = Some (References (fault ∷ faults))
-
-abbrev pub references_refusal : LinkInput → Option LayoutError
-references_refusal link = references_error (reference_faults link)
-
--- the first symbol or relocation that chooses an offset outside the data of a merged section
-abbrev pub offsets_refusal : Made → Option LayoutError
-offsets_refusal made = option_map offset_error (slice_get (merge_offsets made.link made.live) 0)
-
--- sizes past 64 bits
-abbrev pub sizes_refusal : Machine → LinkInput → Live → Option LayoutError
-sizes_refusal machine link live = option_map size_error (size_refusal (filling_for machine link live))
-
--- the first branch that reaches neither its target nor a thunk
-abbrev pub branch_refusal : Made → Option LayoutError
-branch_refusal made = option_map branch_error (slice_get (unreached (made_branching made)) 0)
-
--- what the last walk of relaxation can't carry out
-abbrev pub walk_refusal : Made → Option LayoutError
-walk_refusal made = option_map place_error (refusal_of (made_relaxing made) made.stage)
+abbrev pub references_refusal : List ReferenceFault → Option LayoutError
+references_refusal [] = None
+references_refusal (fault ∷ faults) = Some (References (fault ∷ faults))
 
 -- how all stands at last
 abbrev pub made_standing : Made → PassState
 made_standing made = standing_at (made_relaxing made) made.stage
-
--- the first candidate whose bytes are gone though its symbol is too far from where they stood, by final addresses
-abbrev pub sites_refusal : Made → Option LayoutError
-sites_refusal made = option_map site_error (slice_get (past_limit (made_standing made)) 0)
-
--- a primary that its secondaries take past 64 bits
-abbrev pub joining_refusal : Made → Option LayoutError
-joining_refusal made = option_map place_error (merge_refusal made.link.plan.sections (made_sections made))
-
--- a section outside the segments, or thread-local data that end past 64 bits
-abbrev pub segment_refusal : Made → Option LayoutError
-segment_refusal made =
-    let content = made_content made in
-    option_map place_error (segments_refusal FromSections made.link (made_sections made) (is_emitted content) (active_segments content))
 
 -- ---- the layout
 
@@ -135,45 +96,39 @@ layout_of made =
 
 -- ---- the answer
 
--- behind what sections and segments span: the refusal of offsets into merged data, else that of redirects, else that of branches, else that of
--- deleted candidates, else the layout
-abbrev pub IsSpannedAnswer : Made → Result LayoutRecord LayoutError → Type 0
-IsSpannedAnswer made answer =
-    Unless (offsets_refusal made) answer
-    (Unless (redirects_refusal made) answer
-    (Unless (branch_refusal made) answer
-    (Unless (sites_refusal made) answer (answer ≡ Ok (layout_of made)))))
-
--- behind the placement: the refusal of secondaries, else that of the segments, and then
-abbrev pub IsPlacedAnswer : Made → Result LayoutRecord LayoutError → Type 0
-IsPlacedAnswer made answer = Unless (joining_refusal made) answer (Unless (segment_refusal made) answer (IsSpannedAnswer made answer))
-
--- of the end of relaxation: the refusal of its last placement, and then
+-- the answer where relaxation has ended: the first refusal, else the layout
 abbrev pub IsMadeAnswer : Made → Result LayoutRecord LayoutError → Type 0
-IsMadeAnswer made answer = Unless (walk_refusal made) answer (IsPlacedAnswer made answer)
+IsMadeAnswer made answer =
+    let content = made_content made in
+    -- what its last placement can't carry out
+    Unless (option_map place_error (refusal_of (made_relaxing made) made.stage)) answer
+    -- a primary that its secondaries take past 64 bits
+    (Unless (option_map place_error (merge_refusal made.link.plan.sections (made_sections made))) answer
+    -- a section outside the segments, or thread-local data that end past 64 bits
+    (Unless (option_map place_error (segments_refusal FromSections made.link (made_sections made) (is_emitted content) (active_segments content))) answer
+    -- the first symbol or relocation that chooses an offset outside the data of a merged section
+    (Unless (option_map offset_error (slice_get (merge_offsets made.link made.live) 0)) answer
+    -- a redirect whose expression has no value
+    (Unless (redirects_refusal made) answer
+    -- the first branch that reaches neither its target nor a thunk
+    (Unless (option_map branch_error (slice_get (unreached (made_branching made)) 0)) answer
+    -- the first candidate whose bytes are gone though its symbol is too far from where they stood, by final addresses
+    (Unless (option_map site_error (slice_get (past_limit (made_standing made)) 0)) answer
+    (answer ≡ Ok (layout_of made))))))))
 
--- behind the sizes: the stage at which relaxation ends, and then
-abbrev pub IsSizedAnswer : Machine → LinkInput → Live → Result LayoutRecord LayoutError → Type 0
-IsSizedAnswer machine link live answer =
-    (stage : Stage) × IsRelaxed (relaxing_for machine link live) stage × IsMadeAnswer (made_of machine link live stage) answer
-
--- of what is live: the part that overflows, and then
-abbrev pub IsLiveAnswer : Machine → LinkInput → Live → Result LayoutRecord LayoutError → Type 0
-IsLiveAnswer machine link live answer = Unless (sizes_refusal machine link live) answer (IsSizedAnswer machine link live answer)
-
--- of a link that is merged: all references that can't be met, and then
-abbrev pub IsMergedAnswer : Machine → LinkInput → Result LayoutRecord LayoutError → Type 0
-IsMergedAnswer machine link answer =
-    Unless (references_refusal link) answer
-    ((live : Live) × AreLive link live × IsLiveAnswer machine link live answer)
-
--- of a well-formed link: what can't be merged, and then
-abbrev pub IsCheckedAnswer : Machine → LinkInput → Result LayoutRecord LayoutError → Type 0
-IsCheckedAnswer machine link answer = Unless (merging_refusal link) answer (IsMergedAnswer machine link answer)
-
--- the answer of a link: its first fault, and then (libwild: `compute`)
+-- the answer of a link: the first refusal, else that where relaxation has ended (libwild: `compute`)
 abbrev pub IsDefined : Machine → LinkInput → Result LayoutRecord LayoutError → Type 0
-IsDefined machine link answer = Unless (fault_refusal link) answer (IsCheckedAnswer machine link answer)
+IsDefined machine link answer =
+    -- its first fault, where it isn't well formed
+    Unless (option_map fault_error (first_fault link)) answer
+    -- what can't be merged
+    (Unless (merging_refusal link) answer
+    -- all references that can't be met
+    (Unless (references_refusal (reference_faults link)) answer
+    ((live : Live) × AreLive link live
+    -- of what is live the first part past 64 bits
+    × Unless (option_map size_error (size_refusal (filling_for machine link live))) answer
+    ((stage : Stage) × IsRelaxed (relaxing_for machine link live) stage × IsMadeAnswer (made_of machine link live stage) answer))))
 
 -- memory ran out
 abbrev pub is_memory : LayoutError → Bool

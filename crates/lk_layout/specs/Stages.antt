@@ -1,5 +1,5 @@
 -- Words of private contracts: how far a link is laid out, stage by stage. What is known of a stage holds what was known before.
-use Rattle.std.specs.Prelude.{◌≡◌, false, [], Some, None, Result, Ok, Err, option_map}
+use Rattle.std.specs.Prelude.{◌≡◌, false, [], Some, None, Result, Ok, Err, option_map, slice_get}
 use Rattle.lk_thunk_plan.specs.Branches.{unreached}
 use Rattle.lk_thunk_plan.specs.Orders.{IsInOrder}
 use Rattle.lk_thunk_plan.specs.ThunkPlans.{IsThunkPlan}
@@ -19,12 +19,14 @@ use Rattle.lk_place.specs.Answers.{ArePlaced}
 use Rattle.lk_relax.specs.RelaxedLaws.{nothing_deleted}
 use Rattle.lk_relax.specs.Sites.{past_limit}
 use Rattle.lk_relax.specs.Stages.{IsRelaxed, Stage, filling_after, refusal_of, setting_after}
-use Rattle.lk_place.specs.Segments.{thread_local_one}
+use Rattle.lk_place.specs.declared.segments.SegmentFileLayout.TheVariants.{FromSections}
+use Rattle.lk_place.specs.Secondaries.{merge_refusal}
+use Rattle.lk_place.specs.Segments.{segments_refusal, thread_local_one}
 use Rattle.lk_sizes.specs.Addresses.{block_addresses, section_addresses}
 use Rattle.lk_sizes.specs.Attributes.{all_section_attributes}
 use Rattle.lk_sizes.specs.Images.{image_addresses}
 use Rattle.lk_tables.specs.Singletons.{partial_link_plan}
-use Rattle.lk_sizes.specs.Emitted.{is_emitted, told_marks}
+use Rattle.lk_sizes.specs.Emitted.{active_segments, is_emitted, told_marks}
 use Rattle.lk_sizes.specs.Contents.{size_refusal}
 use Rattle.lk_sizes.specs.Owners.{AreThunkOwners}
 use Rattle.lk_sizes.specs.Sizing.{AreFilled, GivesOwners}
@@ -39,9 +41,10 @@ use Rattle.lk_layout.specs.declared.stages.ReachingLink.{ReachingLink}
 use Rattle.lk_layout.specs.declared.stages.SizedLink.{SizedLink}
 use Rattle.lk_layout.specs.declared.stages.SpannedLink.{SpannedLink}
 use Rattle.lk_layout.specs.declared.stages.ToldLink.{ToldLink}
-use Rattle.lk_layout.specs.Defined.{Gives, joining_refusal, made_joined, is_memory, made_segments, made_standing, segment_refusal, sites_refusal}
+use Rattle.lk_layout.specs.Defined.{Gives, made_joined, made_sections, is_memory, made_segments, made_standing}
 use Rattle.lk_group_starts.specs.GroupStarts.{group_starts}
-use Rattle.lk_layout.specs.Made.{Made, filling_for, made_filling, made_of, relaxing_for}
+use Rattle.lk_layout.specs.Errors.{site_error}
+use Rattle.lk_layout.specs.Made.{Made, filling_for, made_content, made_filling, made_of, relaxing_for}
 use Rattle.lk_layout.specs.Thunks.{made_branching, made_owners, made_places}
 use Rattle.lk_layout.specs.Merging.{merging_refusal}
 use Rattle.lk_layout.specs.Redirects.{made_redirected, placed_resolutions}
@@ -115,8 +118,9 @@ made_placed {machine} {link} {placed} is = made_of machine link placed.kept.live
 -- and this is what its output sections and segments span
 pub record IsSpannedLink (machine : Machine) (link : LinkInput) (spanned : SpannedLink) : Type 0 where
   pub placed : IsPlacedLink machine link spanned.placed
-  pub fits : joining_refusal (made_placed placed) ≡ None
-  pub covered : segment_refusal (made_placed placed) ≡ None
+  pub fits : merge_refusal link.plan.sections (made_sections (made_placed placed)) ≡ None
+  pub covered : segments_refusal FromSections link (made_sections (made_placed placed)) (is_emitted (made_content (made_placed placed)))
+      (active_segments (made_content (made_placed placed))) ≡ None
   pub joined : spanned.joined ≡ made_joined (made_placed placed)
   pub segments : spanned.segments.segments ≡ made_segments (made_placed placed)
   pub thread_local : spanned.segments.tls_layout ≡ option_map (λ l. l.sizes) (thread_local_one link.plan (made_segments (made_placed placed)))
@@ -149,7 +153,7 @@ made_addressed is = made_spanned is.spanned
 -- no deleted candidate is past its limit, or the first is refused, unless memory ran out
 abbrev pub GivesNear : {A : Type 0} → Made → Result A LayoutError → Type 0
 GivesNear made (Ok a) = past_limit (made_standing made) ≡ []
-GivesNear made (Err e) = is_memory e ≡ false → sites_refusal made ≡ Some e
+GivesNear made (Err e) = is_memory e ≡ false → option_map site_error (slice_get (past_limit (made_standing made)) 0) ≡ Some e
 
 -- and here the thunks of each block begin, by which all branches reach
 pub record IsBranchedLink (machine : Machine) (link : LinkInput) (reaching : ReachingLink) : Type 0 where

@@ -1,7 +1,17 @@
 -- Texts of a list's items, from a place on.
-use Rattle.std.proofs.Common.{◌≡◌, ℕ, ◌+◌, ◌<◌, ◌≤◌, List, [], ◌∷◌, ◌++◌, length, map, get_or, drop, refl, sym, ap, arith, zero, suc, ◌∙◌, add-one, append_assoc}
+use Rattle.std.proofs.Common.{◌≡◌, ℕ, ◌+◌, ◌<◌, ◌≤◌, List, [], ◌∷◌, ◌++◌, length, map, get_or, take, drop, refl, sym, ap, arith, zero, suc, ◌∙◌, add-one, append_assoc}
 use Rattle.std.proofs.lemmas.List.{append-nil}
-use Rattle.lk_report.specs.Report.{each}
+use Rattle.std.specs.Prelude.{codes}
+use Rattle.std.specs.List.{flat_map}
+use Rattle.lk_link.specs.declared.link.LinkInput.{LinkInput}
+use Rattle.lk_link.specs.Texts.{joined}
+use Rattle.lk_layout.specs.LayoutRecord.{LayoutRecord}
+use Rattle.lk_layout.specs.Layouts.{emitted_count, resolved_entry, told_live, told_singletons}
+use Rattle.lk_merge.specs.Addresses.{image_start}
+use Rattle.lk_merge.specs.Image.{all_pieces}
+use Rattle.lk_report.specs.Report.{block_text, block_thunks, each, entry_line, laid_out_text, live_line, merged_text, piece_lines, report, report_texts}
+use Rattle.lk_report.specs.Report.{section_part_lines, segment_line, single_line, symbol_text}
+use Rattle.lk_report.specs.ReportPieces.{report_end}
 
 more : {X : Type 0} (f : ℕ → X → List ℕ) (n : ℕ) (xs : List X) (i : ℕ) (d : X) → i < length xs → each f n (drop i xs) ≡ f n (get_or xs i d) ++ each f (suc n) (drop (suc i) xs)
 unfolding each
@@ -47,10 +57,25 @@ each_map f g n [] = refl
 each_map f g n (x ∷ xs) = ap (λ t. f n (g x) ++ t) (each_map f g (suc n) xs)
 
 -- what was written piece by piece is the pieces in a row
-pub in_a_row : (text before a b c : List ℕ) → text ≡ ((before ++ a) ++ b) ++ c → text ≡ before ++ (a ++ (b ++ c))
-in_a_row text before a b c h = h ∙ simp append_assoc
+pub in_a_row : (text before a b c d e : List ℕ) → text ≡ ((before ++ a) ++ (b ++ c)) ++ (d ++ e) → text ≡ before ++ (a ++ (b ++ (c ++ (d ++ e))))
+in_a_row text before a b c d e h = h ∙ simp append_assoc
+
+pub three_in_a_row : (text before a b c : List ℕ) → text ≡ ((before ++ a) ++ b) ++ c → text ≡ before ++ (a ++ (b ++ c))
+three_in_a_row text before a b c h = h ∙ simp append_assoc
+
+all_in_a_row : (text a s p g l n m q b t symbols x y : List ℕ) → text ≡ (((([] ++ (a ++ (s ++ (p ++ g)))) ++ l) ++ (n ++ (m ++ (q ++ (b ++ t))))) ++ symbols) ++ (x ++ y)
+    → text ≡ a ++ (s ++ (p ++ (g ++ (l ++ (n ++ (m ++ (q ++ (b ++ (t ++ (symbols ++ (x ++ y)))))))))))
+all_in_a_row text a s p g l n m q b t symbols x y h = h ∙ simp append_assoc
 
 -- the same of a whole report
-pub whole_report : (text a b c d e f symbols x y : List ℕ) → text ≡ (((([] ++ (a ++ b)) ++ c) ++ (d ++ (e ++ f))) ++ symbols) ++ (x ++ y)
-    → text ≡ a ++ (b ++ ((c ++ d) ++ (e ++ (f ++ (symbols ++ (x ++ y))))))
-whole_report text a b c d e f symbols x y h = h ∙ simp append_assoc
+pub whole_report : (link : LinkInput) (layout : LayoutRecord) (text : List ℕ) →
+    text ≡ (((([] ++ joined (take 4 (report_texts link layout))) ++ flat_map live_line (told_live link layout)) ++ joined (take 5 (drop 5 (report_texts link layout)))) ++ each symbol_text 0 layout.symbol_resolutions) ++ report_end layout
+    → text ≡ report link layout
+whole_report link layout text h =
+    let sections = link.plan.sections in
+    let starts = layout.merged_string_start_addresses in
+    all_in_a_row text (codes "layout\n") (each (λ s _. laid_out_text layout s) 0 sections) (each (λ s _. section_part_lines sections layout.section_part_layouts s) 0 sections)
+    (each (λ _ segment. segment_line segment) 0 layout.segment_layouts) (flat_map live_line (told_live link layout)) (each single_line (emitted_count layout) (told_singletons link layout))
+    (each (merged_text starts) 0 layout.merged_strings) (each (λ s inputs. piece_lines s (image_start starts s) (all_pieces inputs)) 0 layout.merged_strings)
+    (each block_text 0 layout.thunk_block_owners) (each (block_thunks layout) 0 layout.thunk_blocks) (each symbol_text 0 layout.symbol_resolutions)
+    (entry_line (resolved_entry layout)) (codes "end\n") h

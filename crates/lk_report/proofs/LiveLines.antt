@@ -13,12 +13,12 @@ use Rattle.lk_live.proofs.GroupJoining.{made_by_list}
 use Rattle.lk_live.specs.Reach.{marked}
 use Rattle.lk_layout.specs.LayoutRecord.{LayoutRecord}
 use Rattle.lk_layout.specs.Layouts.{told_live, told_section}
-use Rattle.lk_report.specs.LiveLines.{file_lines}
-use Rattle.lk_report.specs.Report.{input_text, live_line, live_lines}
+use Rattle.lk_report.specs.LiveLines.{file_lines, input_text}
+use Rattle.lk_report.specs.Report.{live_line}
 
 -- those of input sections numbered from n on are the lines of those that have a mark
 texts_from : (link : LinkInput) (layout : LayoutRecord) (marks : List Bool) (xs : List Input) (n : ℕ) → ((k : ℕ) → is_marked layout.live_marks (n + k) ≡ is_marked marks k)
-    → flat_map (input_text link layout) (enumerate_from n xs) ≡ live_lines (map (told_section link layout) (marked marks (enumerate_from n xs)))
+    → flat_map (input_text link layout) (enumerate_from n xs) ≡ flat_map live_line (map (told_section link layout) (marked marks (enumerate_from n xs)))
 texts_from link layout [] [] n h = refl
 texts_from link layout (m ∷ marks) [] n h = refl
 texts_from link layout [] (x ∷ xs) n h =
@@ -54,7 +54,7 @@ by_place {X} {Y} number h (x ∷ xs) n at =
     ∙ ap (λ (t : List Y). h (n, x) ++ t) (by_place number h xs (n + 1) (λ k y there. let on : n + suc k ≡ n + 1 + k = omega arith in at (suc k) y there ∙ on))
 
 -- file by file they are the lines of all live sections
-pub all_files : (link : LinkInput) (layout : LayoutRecord) → flat_map (file_lines link layout) (numbered_files link.groups) ≡ live_lines (told_live link layout)
+pub all_files : (link : LinkInput) (layout : LayoutRecord) → flat_map (file_lines link layout) (numbered_files link.groups) ≡ flat_map live_line (told_live link layout)
 all_files link layout =
     let each : ℕ × Input → List ℕ = input_text link layout in
     let number : Input → ℕ = λ x. input_number link.groups x.file x.index in

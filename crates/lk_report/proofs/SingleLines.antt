@@ -18,7 +18,7 @@ use Rattle.lk_link.specs.OutputKinds.{is_partial}
 use Rattle.lk_link.specs.PartRules.{is_singleton_part}
 use Rattle.lk_layout.specs.LayoutRecord.{LayoutRecord}
 use Rattle.lk_layout.specs.Layouts.{emitted_count, told_singletons}
-use Rattle.lk_report.specs.Report.{each, single_line, single_lines}
+use Rattle.lk_report.specs.Report.{each, single_line}
 
 -- the texts of two lists, one after the other
 pub each_both : {X : Type 0} (f : ℕ → X → List ℕ) (n : ℕ) (xs ys : List X) → each f n (xs ++ ys) ≡ each f n xs ++ each f (n + length xs) ys
@@ -132,7 +132,7 @@ none_pass marks p b (q ∷ qs) off =
     ap (λ c. if c then q ∷ rest else rest) never ∙ none_pass marks p b qs off
 
 -- has no such lines
-pub no_lines : (link : LinkInput) (layout : LayoutRecord) (text : List ℕ) → is_partial link.options.output ≡ false → text ≡ text ++ single_lines link layout
+pub no_lines : (link : LinkInput) (layout : LayoutRecord) (text : List ℕ) → is_partial link.options.output ≡ false → text ≡ text ++ each single_line (emitted_count layout) (told_singletons link layout)
 no_lines link layout text off =
     let none : told_singletons link layout ≡ [] = ap (map (λ (q : ℕ × Input). q.1))
     (none_pass layout.live_marks (λ s. is_singleton_part link.plan s.part) (is_partial link.options.output) (enumerate_from 0 (all_inputs link.groups)) off) in

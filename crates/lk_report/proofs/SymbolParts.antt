@@ -1,7 +1,7 @@
 -- Lines of symbols, part by part.
 use Rattle.std.proofs.Common.{◌≡◌, ℕ, suc, ◌+◌, ◌-◌, ◌<◌, List, ◌++◌, ◌∷◌, ◌≤◌, Option, get_or, length, refl, arith, append_assoc}
 use Rattle.lk_link.specs.declared.resolution.Resolution.{Resolution}
-use Rattle.lk_report.specs.Report.{symbol_text, symbol_lines}
+use Rattle.lk_report.specs.Report.{each, symbol_text}
 use Rattle.lk_report.specs.SymbolParts.{lines_from, part_start}
 use Rattle.lk_report.proofs.Lines.{ends}
 
@@ -15,7 +15,7 @@ last_start count parts = grind arith
 
 -- where the lines from the first part on are to follow a text, those of all symbols are
 pub from_first : (resolutions : List (Option Resolution)) (parts k : ℕ) (text : List ℕ) → 0 < parts → k ≡ 0 →
-    text ++ lines_from resolutions (part_start (length resolutions) parts k) ≡ text ++ symbol_lines resolutions
+    text ++ lines_from resolutions (part_start (length resolutions) parts k) ≡ text ++ each symbol_text 0 resolutions
 from_first resolutions parts k text some is = rw (is, first_start (length resolutions) parts some) refl
 
 -- where those from a part on are to follow it, those from the next one on are to follow it with the part's

@@ -1,5 +1,5 @@
 -- The report: the lines that tell where everything of a link stands.
-use Rattle.std.specs.Prelude.{ℕ, suc, ◌+◌, ◌%◌, ◌^◌, ◌==◌, ◌&&◌, ◌||◌, not, nat_lt, Bool, false, if◌then◌else◌, List, [], ◌∷◌, ◌++◌, Option, Some}
+use Rattle.std.specs.Prelude.{ℕ, suc, ◌+◌, ◌%◌, ◌^◌, ◌==◌, ◌&&◌, ◌||◌, not, nat_lt, Bool, if◌then◌else◌, List, [], ◌∷◌, ◌++◌, Option, Some}
 use Rattle.std.specs.Prelude.{None, Result, Ok, Err, codes, length, slice_get, slice_range}
 use Rattle.std.specs.List.{concat, flat_map, list_any}
 use Rattle.std.specs.Fmt.{decimal}
@@ -7,7 +7,6 @@ use Rattle.lk_link.specs.declared.ids.FileId.{FileId}
 use Rattle.lk_link.specs.declared.link.LinkInput.{LinkInput}
 use Rattle.lk_link.specs.declared.plan.PlanSection.{PlanSection}
 use Rattle.lk_link.specs.Inputs.{Input}
-use Rattle.lk_link.specs.Marks.{is_marked}
 use Rattle.lk_link.specs.Parts.{first_part}
 use Rattle.lk_link.specs.Texts.{joined}
 use Rattle.lk_layout.specs.LayoutRecord.{LayoutRecord}
@@ -15,7 +14,7 @@ use Rattle.lk_line.specs.Hexadecimal.{hexadecimal}
 use Rattle.lk_resolutions.specs.declared.resolution.EntryFault.{EntryFault}
 use Rattle.lk_resolutions.specs.declared.resolution.EntryFault.TheVariants.{NotAnAddress, NotLoaded}
 use Rattle.lk_link.specs.declared.resolution.Resolution.{Resolution}
-use Rattle.lk_layout.specs.Layouts.{emitted_count, is_told_singleton, resolved_entry, thunk_address, told_live, told_section, told_singletons}
+use Rattle.lk_layout.specs.Layouts.{emitted_count, resolved_entry, thunk_address, told_live, told_singletons}
 use Rattle.lk_merge.specs.Addresses.{image_start}
 use Rattle.lk_merge.specs.Hash.{fnv64}
 use Rattle.lk_merge.specs.Image.{all_pieces, image, image_pieces, image_place}
@@ -66,10 +65,6 @@ abbrev pub laid_out_text : LayoutRecord → ℕ → List ℕ
 laid_out_text layout s =
     section_text s (slice_get layout.section_layouts s) (slice_get layout.output_section_indexes s) (slice_get layout.section_attributes s)
 
--- the lines of all output sections
-abbrev pub section_lines : List PlanSection → LayoutRecord → List ℕ
-section_lines sections layout = each (λ s _. laid_out_text layout s) 0 sections
-
 -- ---- parts
 
 -- whether a part takes memory
@@ -93,37 +88,17 @@ abbrev pub section_part_lines : List PlanSection → List Record → ℕ → Lis
 section_part_lines sections parts s =
     told_lines (first_part sections s) (slice_range parts (first_part sections s) (first_part sections (s + 1)))
 
--- the lines of all parts
-abbrev pub part_lines : List PlanSection → List Record → List ℕ
-part_lines sections parts = each (λ s section. section_part_lines sections parts s) 0 sections
-
 -- ---- segments and live sections
 
 -- the line of a segment
 unfoldable pub segment_line : SegmentLayout → List ℕ
 segment_line segment = joined (codes "segment " ∷ decimal segment.id ∷ codes " " ∷ range_text segment.sizes ∷ codes "\n" ∷ [])
 
--- the lines of the active segments
-abbrev pub segment_lines : List SegmentLayout → List ℕ
-segment_lines segments = each (λ _ segment. segment_line segment) 0 segments
-
 -- the line of a live section
 unfoldable pub live_line : LiveSection → List ℕ
 live_line live = joined (
     codes "live " ∷ decimal live.file.group ∷ codes " " ∷ decimal live.file.file ∷ codes " " ∷ decimal live.index ∷
     codes " 0x" ∷ hexadecimal live.address ∷ codes " " ∷ decimal live.size ∷ codes "\n" ∷ [])
-
--- the lines of the live sections
-abbrev pub live_lines : List LiveSection → List ℕ
-live_lines live = flat_map live_line live
-
--- an input section, told as live at an address, so many bytes large
-abbrev pub told_at : Input → ℕ → ℕ → LiveSection
-told_at x address size = record { file = x.file; index = x.index; address = address; size = size }
-
--- what is told of an input section with its number: its line, if it is live
-abbrev pub input_text : LinkInput → LayoutRecord → ℕ × Input → List ℕ
-input_text link layout q = if is_marked layout.live_marks q.0 then live_line (told_section link layout q) else []
 
 -- ---- singletons
 
@@ -132,22 +107,6 @@ unfoldable pub single_line : ℕ → Input → List ℕ
 single_line index x = joined (
     codes "single " ∷ decimal x.file.group ∷ codes " " ∷ decimal x.file.file ∷ codes " " ∷ decimal x.index ∷
     codes " " ∷ decimal index ∷ codes "\n" ∷ [])
-
--- the same of an input section with its number, where it is one that is told; else nothing
-abbrev pub single_text : LinkInput → LayoutRecord → ℕ → ℕ × Input → List ℕ
-single_text link layout index q = if is_told_singleton link layout q then single_line index q.1 else []
-
--- the index that is free behind it
-abbrev pub index_behind : LinkInput → LayoutRecord → ℕ → ℕ × Input → ℕ
-index_behind link layout index q = if is_told_singleton link layout q then index + 1 else index
-
--- the lines of all singletons, whose indexes follow those of the emitted sections
-abbrev pub single_lines : LinkInput → LayoutRecord → List ℕ
-single_lines link layout = each single_line (emitted_count layout) (told_singletons link layout)
-
--- the lines on live sections: of all of them, and then of the singletons
-abbrev pub live_report : LinkInput → LayoutRecord → List ℕ
-live_report link layout = live_lines (told_live link layout) ++ single_lines link layout
 
 -- ---- merged strings
 
@@ -163,10 +122,6 @@ merged_line s start inputs = joined (
 unfoldable pub merged_text : List ℕ → ℕ → List MergeInput → List ℕ
 merged_text starts s inputs = if not (length inputs == 0) then merged_line s (image_start starts s) inputs else []
 
--- the lines of all output sections into which something is merged, by number
-abbrev pub merged_lines : List (List MergeInput) → List ℕ → List ℕ
-merged_lines merged starts = each (merged_text starts) 0 merged
-
 -- the line of a distinct piece of an output section, with its address and its bytes
 unfoldable pub piece_line : ℕ → ℕ → ℕ → List ℕ
 piece_line s address len = joined (
@@ -180,14 +135,6 @@ bytes_behind address bytes = (address + bytes) % 2 ^ 64
 abbrev pub piece_lines : ℕ → ℕ → List Piece → List ℕ
 piece_lines s start pieces = flat_map (λ p. piece_line s (bytes_behind start (image_place fnv64 pieces p)) (length p)) (image_pieces fnv64 pieces)
 
--- those of all output sections, by number
-abbrev pub all_piece_lines : List (List MergeInput) → List ℕ → List ℕ
-all_piece_lines merged starts = each (λ s inputs. piece_lines s (image_start starts s) (all_pieces inputs)) 0 merged
-
--- the lines on what is merged: of all output sections, and then of all distinct pieces
-abbrev pub merged_report : List (List MergeInput) → List ℕ → List ℕ
-merged_report merged starts = merged_lines merged starts ++ all_piece_lines merged starts
-
 -- ---- thunks
 
 -- the line of a block with the file that owns it
@@ -199,10 +146,6 @@ unfoldable pub block_text : ℕ → Option FileId → List ℕ
 block_text b None = []
 block_text b (Some id) = block_line b id
 
--- those of all blocks that files own, by number
-abbrev pub block_lines : List (Option FileId) → List ℕ
-block_lines owners = each block_text 0 owners
-
 -- the line of a block's thunk for a symbol
 unfoldable pub thunk_line : ℕ → ℕ → Option ℕ → List ℕ
 thunk_line b s address = joined (codes "thunk " ∷ decimal b ∷ codes " " ∷ decimal s ∷ codes " " ∷ address_text address ∷ codes "\n" ∷ [])
@@ -210,14 +153,6 @@ thunk_line b s address = joined (codes "thunk " ∷ decimal b ∷ codes " " ∷ 
 -- the lines of a block's thunks, each with the address that the layout has for it
 abbrev pub block_thunks : LayoutRecord → ℕ → List ℕ → List ℕ
 block_thunks layout b symbols = each (λ k s. thunk_line b s (thunk_address layout b k)) 0 symbols
-
--- those of blocks with these sets, by number
-abbrev pub thunk_lines : LayoutRecord → List (List ℕ) → List ℕ
-thunk_lines layout sets = each (block_thunks layout) 0 sets
-
--- the lines on thunks: of the blocks that files own, and then of all thunks
-abbrev pub thunk_report : LayoutRecord → List ℕ
-thunk_report layout = block_lines layout.thunk_block_owners ++ thunk_lines layout layout.thunk_blocks
 
 -- ---- symbols and the entry
 
@@ -233,10 +168,6 @@ unfoldable pub symbol_text : ℕ → Option Resolution → List ℕ
 symbol_text s None = []
 symbol_text s (Some r) = symbol_line s r
 
--- the lines of all symbols with a resolution, by number
-abbrev pub symbol_lines : List (Option Resolution) → List ℕ
-symbol_lines resolutions = each symbol_text 0 resolutions
-
 -- the line of the entry: its address, or that there is none, or why it has none
 unfoldable pub entry_line : Result (Option ℕ) EntryFault → List ℕ
 entry_line (Ok (Some address)) = joined (codes "entry 0x" ∷ hexadecimal address ∷ codes "\n" ∷ [])
@@ -246,21 +177,25 @@ entry_line (Err NotAnAddress) = codes "entry not an address\n"
 
 -- ---- the report
 
--- the lines of sections, parts and segments
-abbrev pub record_lines : LinkInput → LayoutRecord → List ℕ
-record_lines link layout = joined (
-    section_lines link.plan.sections layout ∷
-    part_lines link.plan.sections layout.section_part_layouts ∷
-    segment_lines layout.segment_layouts ∷ [])
+-- the texts of a report in their order; a section or a part that the layout has no record of is left out
+abbrev pub report_texts : LinkInput → LayoutRecord → List (List ℕ)
+report_texts link layout =
+    let starts = layout.merged_string_start_addresses in
+    codes "layout\n"
+    ∷ each (λ s _. laid_out_text layout s) 0 link.plan.sections
+    ∷ each (λ s _. section_part_lines link.plan.sections layout.section_part_layouts s) 0 link.plan.sections
+    ∷ each (λ _ segment. segment_line segment) 0 layout.segment_layouts
+    ∷ flat_map live_line (told_live link layout)
+    -- the indexes of singletons follow those of the emitted sections
+    ∷ each single_line (emitted_count layout) (told_singletons link layout)
+    ∷ each (merged_text starts) 0 layout.merged_strings
+    ∷ each (λ s inputs. piece_lines s (image_start starts s) (all_pieces inputs)) 0 layout.merged_strings
+    ∷ each block_text 0 layout.thunk_block_owners
+    ∷ each (block_thunks layout) 0 layout.thunk_blocks
+    ∷ each symbol_text 0 layout.symbol_resolutions
+    ∷ entry_line (resolved_entry layout)
+    ∷ codes "end\n" ∷ []
 
--- the report of a link's layout; a section or a part that the layout has no record of is left out
+-- the report of a link's layout
 abbrev pub report : LinkInput → LayoutRecord → List ℕ
-report link layout = joined (
-    codes "layout\n" ∷
-    record_lines link layout ∷
-    live_report link layout ∷
-    merged_report layout.merged_strings layout.merged_string_start_addresses ∷
-    thunk_report layout ∷
-    symbol_lines layout.symbol_resolutions ∷
-    entry_line (resolved_entry layout) ∷
-    codes "end\n" ∷ [])
+report link layout = joined (report_texts link layout)

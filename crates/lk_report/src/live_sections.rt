@@ -8,8 +8,8 @@ ghost use Rattle.lk_link.specs.Walks.{file_of, input_of};
 ghost use Rattle.lk_link.specs.WellFormed.{IsWellFormed};
 ghost use Rattle.lk_deltas.specs.LinkDeletions.{size_after};
 ghost use Rattle.lk_sizes.specs.Tables.{IsInput};
-ghost use Rattle.lk_report.specs.LiveLines.{file_lines, group_lines};
-ghost use Rattle.lk_report.specs.Report.{input_text, live_line, live_lines, told_at};
+ghost use Rattle.lk_report.specs.LiveLines.{file_lines, group_lines, input_text, told_at};
+ghost use Rattle.lk_report.specs.Report.{live_line};
 
 use lk_deltas::{RelaxDeltaMap, deleted_of, opt_input_to_output};
 use lk_layout::Layout;
@@ -33,7 +33,7 @@ pub(crate) fn write_live_sections(
     layout: &Layout<'_>,
 ) -> Result<(), AllocError>
     requires good { IsWellFormed link.now }
-    ensures { IfOk result (λ _. string_bytes text.new ≡ string_bytes text.old ++ live_lines (told_live link.now layout.now)) }
+    ensures { IfOk result (λ _. string_bytes text.new ≡ string_bytes text.old ++ flat_map live_line (told_live link.now layout.now)) }
 {
     for file in link.groups.files() {
         write_file(text, link, layout, file)?;
@@ -50,7 +50,7 @@ pub(crate) fn live_texts<R: Threads + Sync>(
     layout: &Layout<'_>,
 ) -> Result<Vec<Text>, AllocError>
     requires good { IsWellFormed link.now }
-    ensures { IfOk result (λ texts. flat_map (λ text. text) texts.items ≡ live_lines (told_live link.now layout.now)) }
+    ensures { IfOk result (λ texts. flat_map (λ text. text) texts.items ≡ flat_map live_line (told_live link.now layout.now)) }
 {
     let texts: Result<Vec<Text>, AllocError> = (0..link.groups.len())
         .into_par_iter()

@@ -5,7 +5,7 @@ ghost use Rattle.lk_merge.specs.Addresses.{image_start};
 ghost use Rattle.lk_merge.specs.Buckets.{piece_of};
 ghost use Rattle.lk_merge.specs.Image.{all_pieces};
 ghost use Rattle.lk_report.specs.MergedLines.{behind_all, lines_from};
-ghost use Rattle.lk_report.specs.Report.{bytes_behind, merged_line, merged_text, merged_lines, merged_report, piece_line, piece_lines, all_piece_lines};
+ghost use Rattle.lk_report.specs.Report.{bytes_behind, each, merged_line, merged_text, piece_line, piece_lines};
 
 use lk_line::Line;
 use lk_merge::laws::image_is_distinct;
@@ -33,7 +33,8 @@ pub(crate) fn write_merged(
     merged: &[MergedStringsSection<'_>],
     starts: &MergedStringStartAddresses,
 ) -> Result<(), AllocError>
-    ensures { IfOk result (λ _. string_bytes text.new ≡ string_bytes text.old ++ merged_report merged.now starts.now) }
+    ensures { IfOk result (λ _. string_bytes text.new ≡ string_bytes text.old ++ (each (merged_text starts.now) 0 merged.now
+        ++ each (λ s inputs. piece_lines s (image_start starts.now s) (all_pieces inputs)) 0 merged.now)) }
 {
     write_sections(text, merged, starts)?;
     write_pieces(text, merged, starts)
@@ -45,7 +46,7 @@ fn write_sections(
     merged: &[MergedStringsSection<'_>],
     starts: &MergedStringStartAddresses,
 ) -> Result<(), AllocError>
-    ensures { IfOk result (λ _. string_bytes text.new ≡ string_bytes text.old ++ merged_lines merged.now starts.now) }
+    ensures { IfOk result (λ _. string_bytes text.new ≡ string_bytes text.old ++ each (merged_text starts.now) 0 merged.now) }
 {
     for (number, section) in merged.iter().enumerate() {
         write_section(text, number, section, starts)?;
@@ -95,7 +96,7 @@ fn write_pieces(
     merged: &[MergedStringsSection<'_>],
     starts: &MergedStringStartAddresses,
 ) -> Result<(), AllocError>
-    ensures { IfOk result (λ _. string_bytes text.new ≡ string_bytes text.old ++ all_piece_lines merged.now starts.now) }
+    ensures { IfOk result (λ _. string_bytes text.new ≡ string_bytes text.old ++ each (λ s inputs. piece_lines s (image_start starts.now s) (all_pieces inputs)) 0 merged.now) }
 {
     for (number, section) in merged.iter().enumerate() {
         write_section_pieces(text, number, section, starts.image_start(number))?;

@@ -1,12 +1,12 @@
 //! The report of a layout.
 
-ghost use Rattle.std.specs.Prelude.{◌≡◌, ◌+◌, ◌^◌, ◌<◌, ◌++◌, string_bytes, slice_range, length, IfOk};
+ghost use Rattle.std.specs.Prelude.{◌≡◌, ◌+◌, ◌^◌, ◌<◌, ◌++◌, string_bytes, slice_range, take, drop, length, IfOk};
 ghost use Rattle.std.specs.List.{list_any};
 ghost use Rattle.lk_link.specs.WellFormed.{IsWellFormed};
-ghost use Rattle.lk_report.specs.Report.{report, range_text, index_text, section_line, section_text, laid_out_text, section_lines};
-ghost use Rattle.lk_report.specs.Report.{takes_memory, part_line, part_text, told_lines, section_part_lines, part_lines};
-ghost use Rattle.lk_report.specs.Report.{segment_line, segment_lines, record_lines, entry_line};
-ghost use Rattle.lk_report.specs.ReportPieces.{behind_live, report_end, report_start};
+ghost use Rattle.lk_link.specs.Texts.{joined};
+ghost use Rattle.lk_report.specs.Report.{report, report_texts, each, range_text, index_text, section_line, section_text, laid_out_text};
+ghost use Rattle.lk_report.specs.ReportPieces.{report_end};
+ghost use Rattle.lk_report.specs.Report.{takes_memory, part_line, part_text, told_lines, section_part_lines, segment_line, entry_line};
 
 use crate::live_sections::{add_texts, live_room, live_texts, texts_room, write_live_sections};
 use crate::merged::{merged_room, write_merged};
@@ -151,7 +151,7 @@ fn room_beside(layout: &Layout<'_>) -> usize {
 
 /// The lines before those of live sections.
 fn write_start(text: &mut String, link: &LinkInput, layout: &Layout<'_>) -> Result<(), AllocError>
-    ensures { IfOk result (λ _. string_bytes text.new ≡ string_bytes text.old ++ report_start link.now layout.now) }
+    ensures { IfOk result (λ _. string_bytes text.new ≡ string_bytes text.old ++ joined (take 4 (report_texts link.now layout.now))) }
 {
     text.push_str("layout\n")?;
     write_records(text, link, layout)
@@ -164,7 +164,7 @@ fn write_behind_live(
     layout: &Layout<'_>,
 ) -> Result<(), AllocError>
     requires good { IsWellFormed link.now }
-    ensures { IfOk result (λ _. string_bytes text.new ≡ string_bytes text.old ++ behind_live link.now layout.now) }
+    ensures { IfOk result (λ _. string_bytes text.new ≡ string_bytes text.old ++ joined (take 5 (drop 5 (report_texts link.now layout.now)))) }
 {
     write_singles(text, link, layout)?;
     write_merged(
@@ -186,7 +186,7 @@ fn write_end(text: &mut String, layout: &Layout<'_>) -> Result<(), AllocError>
 
 /// The lines of sections, parts and segments.
 fn write_records(text: &mut String, link: &LinkInput, layout: &Layout<'_>) -> Result<(), AllocError>
-    ensures { IfOk result (λ _. string_bytes text.new ≡ string_bytes text.old ++ record_lines link.now layout.now) }
+    ensures { IfOk result (λ _. string_bytes text.new ≡ string_bytes text.old ++ joined (take 3 (drop 1 (report_texts link.now layout.now)))) }
 {
     let sections = &link.plan.sections;
     write_sections(text, sections.as_slice(), layout)?;
@@ -200,7 +200,7 @@ fn write_sections(
     sections: &[PlanSection],
     layout: &Layout<'_>,
 ) -> Result<(), AllocError>
-    ensures { IfOk result (λ _. string_bytes text.new ≡ string_bytes text.old ++ section_lines sections.now layout.now) }
+    ensures { IfOk result (λ _. string_bytes text.new ≡ string_bytes text.old ++ each (λ s _. laid_out_text layout.now s) 0 sections.now) }
 {
     for (number, _) in sections.iter().enumerate() {
         write_section(text, number, layout)?;
@@ -250,7 +250,7 @@ fn write_parts(
     sections: &PlanSections,
     parts: &[OutputRecordLayout],
 ) -> Result<(), AllocError>
-    ensures { IfOk result (λ _. string_bytes text.new ≡ string_bytes text.old ++ part_lines sections.now parts.now) }
+    ensures { IfOk result (λ _. string_bytes text.new ≡ string_bytes text.old ++ each (λ s _. section_part_lines sections.now parts.now s) 0 sections.now) }
 {
     for (number, _) in sections.as_slice().iter().enumerate() {
         write_section_parts(text, sections, parts, number)?;
@@ -337,7 +337,7 @@ fn write_part_line(
 
 /// The lines of the active segments.
 fn write_segments(text: &mut String, segments: &[SegmentLayout]) -> Result<(), AllocError>
-    ensures { IfOk result (λ _. string_bytes text.new ≡ string_bytes text.old ++ segment_lines segments.now) }
+    ensures { IfOk result (λ _. string_bytes text.new ≡ string_bytes text.old ++ each (λ _ segment. segment_line segment) 0 segments.now) }
 {
     for segment in segments {
         write_segment(text, segment)?;

@@ -2,10 +2,11 @@
 
 ghost use Rattle.std.specs.Prelude.{◌≡◌, ◌+◌, ◌++◌, ◌<◌, ◌≤◌, ◌^◌, if◌then◌else◌, IfOk, is_some, length, string_bytes};
 ghost use Rattle.std.specs.List.{count_by};
-ghost use Rattle.lk_layout.specs.Layouts.{is_told_singleton};
+ghost use Rattle.lk_layout.specs.Layouts.{emitted_count, is_told_singleton, told_singletons};
 ghost use Rattle.lk_link.specs.Walks.{input_of};
 ghost use Rattle.lk_link.specs.WellFormed.{IsWellFormed};
-ghost use Rattle.lk_report.specs.Report.{index_behind, single_line, single_lines, single_text};
+ghost use Rattle.lk_report.specs.LiveLines.{index_behind, single_text};
+ghost use Rattle.lk_report.specs.Report.{each, single_line};
 
 use lk_layout::Layout;
 use lk_line::Line;
@@ -23,7 +24,7 @@ pub(crate) fn write_singles(
     layout: &Layout<'_>,
 ) -> Result<(), AllocError>
     requires good { IsWellFormed link.now }
-    ensures { IfOk result (λ _. string_bytes text.new ≡ string_bytes text.old ++ single_lines link.now layout.now) }
+    ensures { IfOk result (λ _. string_bytes text.new ≡ string_bytes text.old ++ each single_line (emitted_count layout.now) (told_singletons link.now layout.now)) }
 {
     if !link.options.output.is_partial() {
         return Ok(());

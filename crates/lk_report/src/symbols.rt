@@ -2,7 +2,7 @@
 
 ghost use Rattle.std.specs.Prelude.{◌≡◌, ◌+◌, ◌<◌, ◌≤◌, ◌++◌, string_bytes, length, vec_len, IfOk};
 ghost use Rattle.lk_line.specs.declared.line.TheConstants.{ROOM};
-ghost use Rattle.lk_report.specs.Report.{address_text, index_text, symbol_line, symbol_lines, symbol_text};
+ghost use Rattle.lk_report.specs.Report.{address_text, each, index_text, symbol_line, symbol_text};
 ghost use Rattle.lk_report.specs.SymbolParts.{AreMade, IsMade, lines_from, part_start};
 
 use lk_line::{Line, ROOM};
@@ -51,7 +51,7 @@ pub(crate) fn write_symbols(
     text: &mut String,
     resolutions: &SymbolResolutions,
 ) -> Result<(), AllocError>
-    ensures { IfOk result (λ _. string_bytes text.new ≡ string_bytes text.old ++ symbol_lines resolutions.now) }
+    ensures { IfOk result (λ _. string_bytes text.new ≡ string_bytes text.old ++ each symbol_text 0 resolutions.now) }
 {
     write_between(text, resolutions, 0, resolutions.len())?;
     Ok(())
@@ -144,7 +144,7 @@ pub(crate) fn add_parts(
 ) -> Result<(), AllocError>
     requires some { 0 < vec_len parts }
     requires parts { AreMade resolutions.now (vec_len parts) parts.items }
-    ensures { IfOk result (λ _. string_bytes text.new ≡ string_bytes text.old ++ symbol_lines resolutions.now) }
+    ensures { IfOk result (λ _. string_bytes text.new ≡ string_bytes text.old ++ each symbol_text 0 resolutions.now) }
 {
     for part in parts {
         let part = part?;

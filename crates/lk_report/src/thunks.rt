@@ -1,7 +1,7 @@
 //! The lines of the report on thunks: the blocks that files own, and then the thunks of all blocks.
 
 ghost use Rattle.std.specs.Prelude.{◌≡◌, ◌++◌, string_bytes, IfOk, map};
-ghost use Rattle.lk_report.specs.Report.{block_line, block_lines, block_text, block_thunks, thunk_line, thunk_lines, thunk_report};
+ghost use Rattle.lk_report.specs.Report.{block_line, block_text, block_thunks, each, thunk_line};
 
 use lk_layout::Layout;
 use lk_link::{FileId, SymbolId};
@@ -18,7 +18,7 @@ pub(crate) fn thunks_room(layout: &Layout<'_>) -> usize {
 
 /// The lines of the blocks that files own, and then those of all thunks.
 pub(crate) fn write_thunks(text: &mut String, layout: &Layout<'_>) -> Result<(), AllocError>
-    ensures { IfOk result (λ _. string_bytes text.new ≡ string_bytes text.old ++ thunk_report layout.now) }
+    ensures { IfOk result (λ _. string_bytes text.new ≡ string_bytes text.old ++ (each block_text 0 layout.now.thunk_block_owners ++ each (block_thunks layout.now) 0 layout.now.thunk_blocks)) }
 {
     write_blocks(text, layout.thunk_block_owners())?;
     write_all(text, layout, layout.thunk_blocks())
@@ -26,7 +26,7 @@ pub(crate) fn write_thunks(text: &mut String, layout: &Layout<'_>) -> Result<(),
 
 /// The lines of the blocks that a file owns, by number.
 fn write_blocks(text: &mut String, owners: &[Option<FileId>]) -> Result<(), AllocError>
-    ensures { IfOk result (λ _. string_bytes text.new ≡ string_bytes text.old ++ block_lines owners.now) }
+    ensures { IfOk result (λ _. string_bytes text.new ≡ string_bytes text.old ++ each block_text 0 owners.now) }
 {
     for (number, owner) in owners.iter().enumerate() {
         write_block(text, number, *owner)?;
@@ -53,7 +53,7 @@ fn write_all(
     layout: &Layout<'_>,
     blocks: &[ThunkBlock],
 ) -> Result<(), AllocError>
-    ensures { IfOk result (λ _. string_bytes text.new ≡ string_bytes text.old ++ thunk_lines layout.now (map (λ b. b.symbols) blocks.now)) }
+    ensures { IfOk result (λ _. string_bytes text.new ≡ string_bytes text.old ++ each (block_thunks layout.now) 0 (map (λ b. b.symbols) blocks.now)) }
 {
     for (number, block) in blocks.iter().enumerate() {
         write_thunks_of(text, layout, number, block.symbols.as_slice())?;

@@ -1,5 +1,5 @@
 -- Sections and segments of a plain placement, told as a map has them, are good.
-use Rattle.std.proofs.Common.{◌≡◌, ◌≢◌, ℕ, ◌+◌, ◌<◌, ◌≤◌, ◌⊎◌, ◌^◌, Bool, true, false, List, length, map, get_or, None, refl, sym, ap, subst, ◌∙◌, arith, zero-add}
+use Rattle.std.proofs.Common.{◌≡◌, ℕ, ◌+◌, ◌<◌, ◌≤◌, ◌⊎◌, ◌^◌, Bool, true, List, length, map, get_or, None, refl, sym, ap, subst, ◌∙◌, arith, zero-add}
 use Rattle.std.specs.Prelude.{filter, not, nat_lt, unwrap_or, ◌&&◌}
 use Rattle.std.specs.List.{All, AllPairs, Contains, enumerate_from}
 use Rattle.std.proofs.lemmas.Bool.{and_parts}

@@ -1,12 +1,10 @@
 -- A report says its layout's own sections and segments.
-use Rattle.std.proofs.Common.{◌≡◌, ℕ, zero, suc, ◌+◌, ◌<◌, ◌≤◌, Bool, true, false, List, [], ◌∷◌, ◌++◌, Option, Some, None, length, get_or, map, refl, sym, ap, ◌∙◌, arith}
+use Rattle.std.proofs.Common.{◌≡◌, ℕ, suc, ◌+◌, ◌<◌, ◌≤◌, false, List, [], ◌∷◌, ◌++◌, Some, None, length, get_or, map, refl, sym, ap, ◌∙◌, arith}
 use Rattle.std.specs.Prelude.{◌==◌, if◌then◌else◌, slice_get, slice_index}
 use Rattle.std.specs.List.{enumerate_from, flat_map}
 use Rattle.std.proofs.lemmas.Bool.Decides.{nat_tests}
 use Rattle.std.proofs.lemmas.List.{append_assoc}
 use Rattle.std.proofs.lemmas.Option.{slice_get-get_or}
-use Rattle.lk_map.specs.declared.forms.Form.{Form}
-use Rattle.lk_map.specs.declared.forms.Form.TheVariants as form
 use Rattle.lk_map.specs.declared.map_text.SectionLine.{SectionLine}
 use Rattle.lk_map.specs.declared.map_text.SegmentLine.{SegmentLine}
 use Rattle.lk_map.specs.Forms.{rank, row_of}
@@ -14,11 +12,11 @@ use Rattle.lk_map.specs.Lines.{Line}
 use Rattle.lk_map.specs.MapText.{section_at, section_told as section_in, sections_of, segment_at, segment_told as segment_in, segments_of}
 use Rattle.lk_link.specs.declared.link.LinkInput.{LinkInput}
 use Rattle.lk_link.specs.declared.plan.PlanSection.{PlanSection}
-use Rattle.lk_expressions.specs.Records.{Record, nowhere, record_at}
+use Rattle.lk_expressions.specs.Records.{nowhere, record_at}
 use Rattle.lk_place.specs.declared.segments.SegmentLayout.{SegmentLayout}
 use Rattle.lk_layout.specs.LayoutRecord.{LayoutRecord}
 use Rattle.lk_layout.specs.Layouts.{resolved_entry}
-use Rattle.lk_report_maps.specs.ToldLines.{all_parts_say, all_sections_say, AreShort, each_line, entry_told, inner_lines, laid_out_says, section_says, section_told, segment_told, told_lines}
+use Rattle.lk_report_maps.specs.ToldLines.{all_parts_say, all_sections_say, each_line, inner_lines, laid_out_says, section_says, section_told, segment_told, told_lines}
 use Rattle.lk_report_maps.specs.Laws.{first_segment_line, IsWhole, map_section, map_sections, map_segment, map_segments, ReportsAreRead}
 use Rattle.lk_report_maps.proofs.Told.{entry_shaped, goes_on, inner_shaped, last_lines, Shaped, ShapedFrom, text_is}
 

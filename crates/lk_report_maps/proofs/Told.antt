@@ -1,7 +1,7 @@
 -- A report is a map, line by line.
-use Rattle.std.proofs.Common.{◌≡◌, ℕ, zero, suc, ◌+◌, ◌^◌, ◌<◌, ◌≤◌, Bool, true, false, List, [], ◌∷◌, ◌++◌, Option, Some, None, Result, Ok, Err, length, get_or, map, refl, sym, ap, ◌∙◌, subst, arith}
-use Rattle.std.specs.Prelude.{◌==◌, ◌&&◌, ◌||◌, not, nat_le, codes, IfSome, if◌then◌else◌, slice_get, slice_range}
-use Rattle.std.specs.Fmt.{decimal, digits}
+use Rattle.std.proofs.Common.{◌≡◌, ℕ, suc, ◌+◌, ◌^◌, ◌<◌, ◌≤◌, Bool, true, false, List, [], ◌∷◌, ◌++◌, Option, Some, None, Result, Ok, Err, length, map, refl, sym, ap, ◌∙◌, subst, arith}
+use Rattle.std.specs.Prelude.{◌==◌, ◌&&◌, ◌||◌, not, codes, drop, IfSome, if◌then◌else◌, slice_get, slice_range, take}
+use Rattle.std.specs.Fmt.{decimal}
 use Rattle.std.specs.List.{All, flat_map, join_with_byte, list_any}
 use Rattle.std.proofs.lemmas.Bool.{false≢true}
 use Rattle.std.proofs.lemmas.Bool.Decides.{nat_tests}
@@ -13,7 +13,7 @@ use Rattle.lk_map.specs.declared.forms.Form.{Form}
 use Rattle.lk_map.specs.declared.forms.Form.TheVariants as form
 use Rattle.lk_map.specs.Forms.{fields_of, follows, rank, row_of, word_text}
 use Rattle.lk_map.specs.Lines.{Line}
-use Rattle.lk_map.specs.Written.{CanStand, GoOn, IsMap, line_text, StandAt, value_text, words_for}
+use Rattle.lk_map.specs.Written.{CanStand, GoOn, line_text, StandAt, value_text, words_for}
 use Rattle.lk_link.specs.Inputs.{Input}
 use Rattle.lk_link.specs.Parts.{first_part}
 use Rattle.lk_link.specs.Texts.{joined}
@@ -24,7 +24,7 @@ use Rattle.lk_link.specs.declared.resolution.Resolution.{Resolution}
 use Rattle.lk_expressions.specs.Records.{Record}
 use Rattle.lk_merge.specs.Addresses.{image_start}
 use Rattle.lk_merge.specs.Hash.{fnv64}
-use Rattle.lk_merge.specs.Image.{all_pieces, image, image_pieces, image_place}
+use Rattle.lk_merge.specs.Image.{all_pieces, image_pieces, image_place}
 use Rattle.lk_merge.specs.Pieces.{MergeInput, Piece}
 use Rattle.lk_sizes.specs.declared.addresses.LiveSection.{LiveSection}
 use Rattle.lk_place.specs.declared.segments.SegmentLayout.{SegmentLayout}
@@ -33,8 +33,8 @@ use Rattle.lk_layout.specs.Layouts.{emitted_count, resolved_entry, thunk_address
 use Rattle.lk_resolutions.specs.declared.resolution.EntryFault.{EntryFault}
 use Rattle.lk_resolutions.specs.declared.resolution.EntryFault.TheVariants.{NotAnAddress, NotLoaded}
 use Rattle.lk_line.specs.Hexadecimal.{hexadecimal}
-use Rattle.lk_report.specs.Report.{address_text, all_piece_lines, block_line, block_lines, block_text, block_thunks, bytes_behind, each, entry_line, index_text, laid_out_text, live_line, live_lines, merged_line, merged_lines, merged_text, part_line, part_lines, part_text, piece_line, piece_lines, range_text, report, section_line, section_lines, section_part_lines, section_text, segment_line, segment_lines, single_line, single_lines, symbol_line, symbol_lines, symbol_text, takes_memory, thunk_line, thunk_lines, told_lines as told_part_lines}
-use Rattle.lk_report_maps.specs.ToldLines.{all_parts_say, all_sections_say, AreShort, block_says, block_thunks_say, block_told, each_line, entry_told, inner_lines, laid_out_says, live_told, merged_says, merged_told, part_says, part_told, pieces_say, piece_told, range_values, section_parts_say, section_says, section_told, segment_told, single_told, symbol_says, symbol_told, thunk_told, told_lines, told_parts_say}
+use Rattle.lk_report.specs.Report.{address_text, block_line, block_text, block_thunks, bytes_behind, each, entry_line, index_text, laid_out_text, live_line, merged_line, merged_text, part_line, part_text, piece_line, piece_lines, range_text, report, report_texts, section_line, section_part_lines, section_text, segment_line, single_line, symbol_line, symbol_text, takes_memory, thunk_line, told_lines as told_part_lines}
+use Rattle.lk_report_maps.specs.ToldLines.{all_parts_say, AreShort, block_says, block_thunks_say, block_told, each_line, entry_told, inner_lines, laid_out_says, live_told, merged_says, merged_told, part_says, part_told, pieces_say, piece_told, section_parts_say, section_says, section_told, segment_told, single_told, symbol_says, symbol_told, thunk_told, told_lines, told_parts_say}
 use Rattle.lk_report_maps.specs.Laws.{ReportsAreMaps}
 
 -- ---- a line with its line feed
@@ -237,24 +237,10 @@ blocks_onto (b ∷ bs) t =
     ∙ sym (append_assoc (fed b) (fed (flat_map (λ ls. ls) bs)) t)
     ∙ ap (λ z. z ++ t) (sym (flat_map-append (λ line. line_text line ++ 10 ∷ []) b (flat_map (λ ls. ls) bs)))
 
-regrouped : (s p g l n m q b t y e : List ℕ) → (s ++ (p ++ g)) ++ ((l ++ n) ++ ((m ++ q) ++ ((b ++ t) ++ (y ++ e)))) ≡ onto (s ∷ p ∷ g ∷ l ∷ n ∷ m ∷ q ∷ b ∷ t ∷ y ∷ []) e
-unfolding onto
-regrouped s p g l n m q b t y e =
-    append_assoc s (p ++ g) ((l ++ n) ++ ((m ++ q) ++ ((b ++ t) ++ (y ++ e))))
-    ∙ ap (λ z. s ++ z) (append_assoc p g ((l ++ n) ++ ((m ++ q) ++ ((b ++ t) ++ (y ++ e)))))
-    ∙ ap (λ z. s ++ (p ++ (g ++ z)))
-    (append_assoc l n ((m ++ q) ++ ((b ++ t) ++ (y ++ e)))
-    ∙ ap (λ z. l ++ (n ++ z))
-    (append_assoc m q ((b ++ t) ++ (y ++ e)) ∙ ap (λ z. m ++ (q ++ z)) (append_assoc b t (y ++ e))))
-
 module _ (link : LinkInput) (layout : LayoutRecord) where
-  -- the texts of all kinds, in their order
+  -- the texts of all kinds between the first line and the last two, in their order
   abbrev texts : List (List ℕ)
-  texts =
-      section_lines link.plan.sections layout ∷ part_lines link.plan.sections layout.section_part_layouts ∷ segment_lines layout.segment_layouts ∷
-      live_lines (told_live link layout) ∷ single_lines link layout ∷
-      merged_lines layout.merged_strings layout.merged_string_start_addresses ∷ all_piece_lines layout.merged_strings layout.merged_string_start_addresses ∷
-      block_lines layout.thunk_block_owners ∷ thunk_lines layout layout.thunk_blocks ∷ symbol_lines layout.symbol_resolutions ∷ []
+  texts = take 10 (drop 1 (report_texts link layout))
 
   texts_are : texts ≡ map fed (inner_lines link layout)
   texts_are =
@@ -287,14 +273,10 @@ module _ (link : LinkInput) (layout : LayoutRecord) where
   first_is = refl
 
   pub text_is : report link layout ≡ fed (told_lines link layout)
+  unfolding onto
   text_is =
       ap (λ z. codes "layout\n" ++ z)
-      (regrouped (section_lines link.plan.sections layout) (part_lines link.plan.sections layout.section_part_layouts) (segment_lines layout.segment_layouts)
-      (live_lines (told_live link layout)) (single_lines link layout)
-      (merged_lines layout.merged_strings layout.merged_string_start_addresses) (all_piece_lines layout.merged_strings layout.merged_string_start_addresses)
-      (block_lines layout.thunk_block_owners) (thunk_lines layout layout.thunk_blocks) (symbol_lines layout.symbol_resolutions)
-      (entry_line (resolved_entry layout) ++ codes "end\n")
-      ∙ ap (λ ts. onto ts (entry_line (resolved_entry layout) ++ codes "end\n")) texts_are
+      (ap (λ ts. onto ts (entry_line (resolved_entry layout) ++ codes "end\n")) texts_are
       ∙ blocks_onto (inner_lines link layout) (entry_line (resolved_entry layout) ++ codes "end\n")
       ∙ ap (λ t. fed (flat_map (λ ls. ls) (inner_lines link layout)) ++ t) last_are
       ∙ sym (flat_map-append (λ line. line_text line ++ 10 ∷ []) (flat_map (λ ls. ls) (inner_lines link layout)) last_lines))

@@ -1,6 +1,6 @@
 -- What is told of a section's attributes: whether it is allocated, thread-local and zero-filled is the plan's.
-use Rattle.std.proofs.Common.{◌≡◌, ℕ, Bool, true, false, List, [], ◌∷◌, ⊎_elim, fold, get_or, length, map, refl, sym, ap, ◌∙◌, inl, inr, arith, Some, suc}
-use Rattle.std.specs.Prelude.{bit_and, bit_or, filter, not, slice_get, ◌==◌, ◌||◌, if◌then◌else◌}
+use Rattle.std.proofs.Common.{◌≡◌, ℕ, true, false, List, [], ◌∷◌, ⊎_elim, fold, get_or, map, refl, ap, ◌∙◌, arith, Some, suc}
+use Rattle.std.specs.Prelude.{bit_and, bit_or, not, slice_get, ◌==◌, if◌then◌else◌}
 use Rattle.std.specs.List.{All, list_any, slice_index_or}
 use Rattle.std.proofs.lemmas.Bool.{eqb-true, or_cases}
 use Rattle.std.proofs.lemmas.List.Elements.{All-filter, All-map}

@@ -1,18 +1,15 @@
 -- Defined layouts are whole.
-use Rattle.std.proofs.Common.{◌≡◌, ℕ, List, Ok, length, map, ap, sym, ◌∙◌}
+use Rattle.std.proofs.Common.{◌≡◌, ℕ, List, length, map, ap, ◌∙◌}
 use Rattle.std.specs.List.{enumerate_from}
 use Rattle.std.proofs.lemmas.List.{length-map}
 use Rattle.std.proofs.lemmas.List.FromFn.{length-enumerate_from}
-use Rattle.lk_link.specs.declared.link.LinkInput.{LinkInput}
 use Rattle.lk_place.specs.Segments.{part_records, section_record}
 use Rattle.lk_sizes.specs.Attributes.{section_attributes}
 use Rattle.lk_sizes.specs.Emitted.{output_index}
-use Rattle.lk_layout.specs.Defined.{IsDefined}
 use Rattle.lk_layout.specs.LayoutRecord.{LayoutRecord}
 use Rattle.lk_soundness.specs.Laws.{DefinedLayoutsAreSound}
-use Rattle.lk_layout.specs.Machines.{IsLawfulMachine, Machine}
 use Rattle.lk_layout.specs.Made.{made_filling, made_of}
-use Rattle.lk_report_maps.specs.Laws.{DefinedLayoutsAreWhole, DefinedReportsAreRead, IsWhole, ReportsAreRead}
+use Rattle.lk_report_maps.specs.Laws.{DefinedLayoutsAreWhole, DefinedReportsAreRead, ReportsAreRead}
 
 -- as many as there are items
 numbered : {X Y : Type 0} (f : ℕ × X → Y) (xs : List X) → length (map f (enumerate_from 0 xs)) ≡ length xs

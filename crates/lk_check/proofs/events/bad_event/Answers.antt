@@ -1,8 +1,8 @@
 use Rattle.std.proofs.Common.{◌≡◌, ◌<◌, ◌≤◌, Some, None, cond, length, get_or, take, sym, ap, ◌∙◌}
 use Rattle.lk_link.specs.Files.{first_some}
-use Rattle.lk_check.specs.FirstBadEvent.{is_good_event, bad_event, is_complete}
+use Rattle.lk_check.specs.FirstBadEvent.{is_good_event, is_complete}
 use Rattle.lk_check.proofs.First.{numbered_here, numbered_on, numbered_end}
-use Rattle.lk_check.proofs.MarkLemmas.{one_more, all_of}
+use Rattle.lk_check.proofs.MarkLemmas.{bad_event, one_more, all_of}
 use Rattle.lk_check.proofs.events.bad_event.Goals as goal
 
 pub returns-then-not-admits : goal.returns-then-not-admits

@@ -1,8 +1,8 @@
 use Rattle.std.proofs.Common.{◌≡◌, take, drop}
 use Rattle.std.specs.List.{enumerate_from}
 use Rattle.lk_check.specs.FirstAnswer.{first_of}
-use Rattle.lk_check.specs.FirstBadEvent.{bad_event}
 use Rattle.lk_check.specs.Marks.{AreMarks}
+use Rattle.lk_check.proofs.MarkLemmas.{bad_event}
 use Rattle.lk_check.proofs.events.bad_event.Given as goal
 
 abbrev pub invariant-loop-place : goal.invariant-loop-place

@@ -6,7 +6,7 @@ use Rattle.lk_link.specs.declared.section.InputSection.{InputSection}
 use Rattle.lk_link.specs.Inputs.{Input, input_number, numbered_section}
 use Rattle.lk_link.proofs.InputLemmas.{inputs_follow}
 use Rattle.lk_reach.proofs.SymbolNumbers.{first_within, inputs_few, sections_within}
-use Rattle.lk_report.specs.Report.{input_text}
+use Rattle.lk_report.specs.LiveLines.{input_text}
 use Rattle.lk_report.proofs.LiveLines.{next_item}
 use Rattle.lk_report.proofs.live_sections.write_file.Goals as goal
 

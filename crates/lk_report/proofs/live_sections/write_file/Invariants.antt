@@ -2,7 +2,7 @@ use Rattle.std.proofs.Common.{◌≡◌, ◌++◌, ◌≤◌, length, map, take}
 use Rattle.std.specs.Prelude.{string_bytes}
 use Rattle.std.specs.List.{enumerate_from, flat_map}
 use Rattle.lk_link.specs.Inputs.{input_number, numbered_section}
-use Rattle.lk_report.specs.Report.{input_text}
+use Rattle.lk_report.specs.LiveLines.{input_text}
 use Rattle.lk_report.proofs.live_sections.write_file.Given as goal
 
 -- the lines of the sections so far are written

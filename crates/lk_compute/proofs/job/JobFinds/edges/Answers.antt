@@ -2,13 +2,10 @@ use Rattle.std.proofs.Common.{length, sym, ap, subst, ◌∙◌}
 use Rattle.lk_own_symbols.specs.Edges.{EndsBelow}
 use Rattle.lk_place.specs.declared.segments.SegmentFileLayout.TheVariants.{FromSections}
 use Rattle.lk_sizes.specs.Emitted.{active_segments, is_emitted}
-use Rattle.lk_layout.specs.Errors.{place_error}
 use Rattle.lk_layout.specs.Machines.{platform_machine}
 use Rattle.lk_layout.specs.Made.{Made, made_content}
 use Rattle.lk_layout.specs.Spans.{made_sections}
 use Rattle.lk_layout.specs.Stages.{made_spanned}
-use Rattle.lk_layout.proofs.Answering.{segments_of}
-use Rattle.lk_layout.proofs.OneAnswer.{none_of}
 use Rattle.lk_layout.proofs.PlacedSites.{sections_are}
 use Rattle.lk_compute.proofs.Redirecting.{edges_are}
 use Rattle.lk_layout.proofs.Settings.{length-section_records}
@@ -23,7 +20,7 @@ edges_of-requires-clause-below g c =
     let made : Made = made_spanned c.requires.spanned in
     let content = made_content made in
     subst (EndsBelow made.link.plan) (sym (c.as_slice.ensures ∙ c.requires.spanned.segments))
-    (c.segments_end_below.ensures FromSections made.link (made_sections made) (is_emitted content) (active_segments content) (none_of place_error (segments_of made) c.requires.spanned.covered))
+    (c.segments_end_below.ensures FromSections made.link (made_sections made) (is_emitted content) (active_segments content) c.requires.spanned.covered)
 
 pub returns : goal.returns
 returns g c = λ is.

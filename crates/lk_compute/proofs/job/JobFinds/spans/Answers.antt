@@ -73,8 +73,8 @@ returns g c =
     let inside : segments_of made ≡ None = rw (spans, marks, active) at c.in_ok-segments.ensures.refuses_none in
     record {
       placed = c.requires.placed;
-      fits = ap (option_map place_error) fit;
-      covered = ap (option_map place_error) inside;
+      fits = fit;
+      covered = inside;
       joined = c.from_vec.ensures ∙ c.in_ok-joined.ensures.merged ∙ ap (merged_records link.plan.sections) spans;
       segments = layouts;
       thread_local = c.in_ok-segments.ensures.thread_local ∙ ap (λ (ls : List SegmentLayout). option_map (λ l. l.sizes) (thread_local_one link.plan ls)) layouts;
