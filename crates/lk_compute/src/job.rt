@@ -40,7 +40,7 @@ use lk_resolutions::{Addresses, PlacedParts, addresses_of, check_offsets};
 use lk_sizes::part_owners::{add_thunks, plain_owners};
 use lk_sizes::{PartOwners, PartialLinkPlan, attributes_of_contents};
 use lk_thunk_plan::laws::thunk_owners_are_good;
-use lk_thunk_plan::{ThunkPlan, block_owners, block_places, check_branches, plan_thunks};
+use lk_thunk_plan::{Branches, ThunkPlan, block_owners, block_places, check_branches, plan_thunks};
 use lk_thunks::Arch;
 use std::alloc::{AllocError, Global};
 
@@ -394,15 +394,15 @@ impl<'a, 'data, P: Platform, A: Arch> Finds<'data> for Job<'a, 'data, P, A> {
         let found = &addressed.addresses;
         let places = block_places(alloc, plan, &found.blocks)?;
         let resolutions = &found.resolutions;
-        check_branches(
-            self.link,
-            &placed.kept.live,
+        check_branches(&Branches {
+            link: self.link,
+            live: &placed.kept.live,
             plan,
-            &places,
-            &found.sections,
-            placed.deltas.as_slice(),
+            places: &places,
+            addresses: &found.sections,
+            deltas: placed.deltas.as_slice(),
             resolutions,
-        )?;
+        })?;
         Ok(List::from_vec(places))
     }
 

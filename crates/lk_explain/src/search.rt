@@ -38,6 +38,28 @@ pub(crate) struct Search {
     found: Vec<u32>,
 }
 
+/// A level whose units are taken: those that were found from a place on.
+#[derive(Clone, Copy)]
+struct Level<'a> {
+    link: &'a LinkInput,
+    /// All files, by their number.
+    files: &'a [FileId],
+    /// The place of its first unit among those that are found.
+    start: usize,
+    /// The distance of what its units ask for, where that wasn't found.
+    distance: u32,
+}
+
+/// A unit that asks, or roots.
+#[derive(Clone, Copy)]
+struct Asker<'a> {
+    link: &'a LinkInput,
+    /// The unit's number, and 0 for roots.
+    number: u32,
+    /// The distance of what it asks for, where that wasn't found.
+    distance: u32,
+}
+
 impl Search {
     /// What is found of a link when the level of a unit is done, or nothing is left to find.
     pub(crate) fn over(
@@ -60,7 +82,13 @@ impl Search {
             let end = search.found.len();
             distance += 1;
             search.sort_from(start);
-            search.take_level(link, files, &mut shared, start, distance)?;
+            let level = Level {
+                link,
+                files,
+                start,
+                distance,
+            };
+            search.take_level(level, &mut shared)?;
             start = end;
         }
         Ok(search)
@@ -122,15 +150,20 @@ impl Search {
             (Takes (asking link.now) 1 (with_asker 0 (file_roots link.now (file_of file.entry))) self.old self.new
             × (located.new ≡ true → AreFound link.now self.new (location_asks link.now))) }
     {
+        let root = Asker {
+            link,
+            number: 0,
+            distance: 1,
+        };
         if !file.file.kind.is_script() {
-            self.take_all(link, 0, file_roots(link, file), 1)?;
+            self.take_all(root, file_roots(link, file))?;
             return Ok(());
         }
         if *located {
             self.take_wanted(link, file)?;
             return Ok(());
         }
-        self.take_all(link, 0, file_roots(link, file), 1)?;
+        self.take_all(root, file_roots(link, file))?;
         *located = true;
         Ok(())
     }
@@ -146,41 +179,45 @@ impl Search {
         requires located { AreFound link.now self.old (location_asks link.now) }
         ensures { OnOk result (Takes (asking link.now) 1 (with_asker 0 (file_roots link.now (file_of file.entry))) self.old self.new) }
     {
+        let root = Asker {
+            link,
+            number: 0,
+            distance: 1,
+        };
         for ask in file_roots(link, file) {
             if sets_flags(&ask) {
                 return Ok(());
             }
-            self.take(link, 0, ask, 1)?;
+            self.take(root, ask)?;
         }
         Ok(())
     }
 
     /// Takes what the units of a level ask for: those that were found from a place on, which stand in rising order.
-    fn take_level(
-        &mut self,
-        link: &LinkInput,
-        files: &[FileId],
-        shared: &mut Shared,
-        start: usize,
-        distance: u32,
-    ) -> Result<(), AllocError>
-        requires well_formed { IsWellFormed link.now }
-        requires files { files.now ≡ files_of link.now }
-        requires sized { IsSized (asking link.now) self.old }
-        requires distance { 0 < distance }
-        requires start { start ≤ length self.old.found.items }
-        requires found { All (λ u. 0 < far self.old u) (drop start self.old.found.items) }
-        requires rises { IsNonDecreasing (drop start self.old.found.items) }
-        requires fresh { (u : ℕ) → far self.old u ≡ distance → ⊥ }
-        requires shared { AreShared link.now shared.old self.old }
+    fn take_level(&mut self, level: Level<'_>, shared: &mut Shared) -> Result<(), AllocError>
+        requires well_formed { IsWellFormed level.link.now }
+        requires files { level.files.now ≡ files_of level.link.now }
+        requires sized { IsSized (asking level.link.now) self.old }
+        requires distance { 0 < level.distance }
+        requires start { level.start ≤ length self.old.found.items }
+        requires found { All (λ u. 0 < far self.old u) (drop level.start self.old.found.items) }
+        requires rises { IsNonDecreasing (drop level.start self.old.found.items) }
+        requires fresh { (u : ℕ) → far self.old u ≡ level.distance → ⊥ }
+        requires shared { AreShared level.link.now shared.old self.old }
         ensures { OnOk result
-            (Takes (asking link.now) distance (asks_of (asking link.now) (drop start self.old.found.items)) self.old self.new × AreShared link.now shared.new self.new) }
+            (Takes (asking level.entry.link.now) level.entry.distance (asks_of (asking level.entry.link.now) (drop level.entry.start self.old.found.items)) self.old self.new
+            × AreShared level.entry.link.now shared.new self.new) }
     {
         let end = self.found.len();
-        for place in start..end {
+        for place in level.start..end {
             let number = self.found[place];
-            if let Some(unit) = unit_at(link, files, number as usize) {
-                self.take_unit(link, number, unit, shared, distance)?;
+            if let Some(unit) = unit_at(level.link, level.files, number as usize) {
+                let asker = Asker {
+                    link: level.link,
+                    number,
+                    distance: level.distance,
+                };
+                self.take_unit(asker, unit, shared)?;
             }
         }
         Ok(())
@@ -189,29 +226,28 @@ impl Search {
     /// Takes what a unit asks for that is found itself. `shared` has what was taken of that for which others ask as well.
     fn take_unit(
         &mut self,
-        link: &LinkInput,
-        number: u32,
+        asker: Asker<'_>,
         unit: Unit,
         shared: &mut Shared,
-        distance: u32,
     ) -> Result<(), AllocError>
-        requires well_formed { IsWellFormed link.now }
-        requires sized { IsSized (asking link.now) self.old }
-        requires distance { 0 < distance }
-        requires number { number ≡ unit_number link.now.groups unit }
-        requires found { 0 < far self.old number }
-        requires below { IsBelow self.old distance number }
-        requires shared { AreShared link.now shared.old self.old }
+        requires well_formed { IsWellFormed asker.link.now }
+        requires sized { IsSized (asking asker.link.now) self.old }
+        requires distance { 0 < asker.distance }
+        requires number { asker.number ≡ unit_number asker.link.now.groups unit }
+        requires found { 0 < far self.old asker.number }
+        requires below { IsBelow self.old asker.distance asker.number }
+        requires shared { AreShared asker.link.now shared.old self.old }
         ensures { OnOk result
-            (Takes (asking link.now) distance (with_asker number (follows link.now unit)) self.old self.new × AreShared link.now shared.new self.new) }
+            (Takes (asking asker.entry.link.now) asker.entry.distance (with_asker asker.entry.number (follows asker.entry.link.now unit)) self.old self.new
+            × AreShared asker.entry.link.now shared.new self.new) }
     {
         match unit {
             Unit::Sym(symbol) => {
-                self.take_symbol(link, number, symbol, shared, distance)?;
+                self.take_symbol(asker, symbol, shared)?;
                 Ok(())
             }
             Unit::Sec(file, index) => {
-                self.take_section(link, number, file, index, shared, distance)?;
+                self.take_section(asker, file, index, shared)?;
                 Ok(())
             }
         }
@@ -220,57 +256,50 @@ impl Search {
     /// Takes what a symbol asks for, unless that was taken.
     fn take_symbol(
         &mut self,
-        link: &LinkInput,
-        number: u32,
+        asker: Asker<'_>,
         symbol: SymbolId,
         shared: &mut Shared,
-        distance: u32,
     ) -> Result<(), AllocError>
-        requires well_formed { IsWellFormed link.now }
-        requires sized { IsSized (asking link.now) self.old }
-        requires distance { 0 < distance }
-        requires below { IsBelow self.old distance number }
-        requires shared { AreShared link.now shared.old self.old }
+        requires well_formed { IsWellFormed asker.link.now }
+        requires sized { IsSized (asking asker.link.now) self.old }
+        requires distance { 0 < asker.distance }
+        requires below { IsBelow self.old asker.distance asker.number }
+        requires shared { AreShared asker.link.now shared.old self.old }
         ensures { OnOk result
-            (Takes (asking link.now) distance (with_asker number (follows link.now (Sym symbol))) self.old self.new × AreShared link.now shared.new self.new) }
+            (Takes (asking asker.entry.link.now) asker.entry.distance (with_asker asker.entry.number (follows asker.entry.link.now (Sym symbol))) self.old self.new
+            × AreShared asker.entry.link.now shared.new self.new) }
     {
-        if shared.is_taken(link, symbol) {
+        if shared.is_taken(asker.link, symbol) {
             return Ok(());
         }
-        self.take_all(link, number, successors(link, Unit::Sym(symbol)), distance)?;
-        shared.take(link, symbol);
+        self.take_all(asker, successors(asker.link, Unit::Sym(symbol)))?;
+        shared.take(asker.link, symbol);
         Ok(())
     }
 
     /// Takes what a section asks for that is found itself.
     fn take_section(
         &mut self,
-        link: &LinkInput,
-        number: u32,
+        asker: Asker<'_>,
         file: FileId,
         index: u32,
         shared: &mut Shared,
-        distance: u32,
     ) -> Result<(), AllocError>
-        requires well_formed { IsWellFormed link.now }
-        requires sized { IsSized (asking link.now) self.old }
-        requires distance { 0 < distance }
-        requires number { number ≡ unit_number link.now.groups (Sec file index) }
-        requires found { 0 < far self.old number }
-        requires below { IsBelow self.old distance number }
-        requires shared { AreShared link.now shared.old self.old }
+        requires well_formed { IsWellFormed asker.link.now }
+        requires sized { IsSized (asking asker.link.now) self.old }
+        requires distance { 0 < asker.distance }
+        requires number { asker.number ≡ unit_number asker.link.now.groups (Sec file index) }
+        requires found { 0 < far self.old asker.number }
+        requires below { IsBelow self.old asker.distance asker.number }
+        requires shared { AreShared asker.link.now shared.old self.old }
         ensures { OnOk result
-            (Takes (asking link.now) distance (with_asker number (follows link.now (Sec file index))) self.old self.new × AreShared link.now shared.new self.new) }
+            (Takes (asking asker.entry.link.now) asker.entry.distance (with_asker asker.entry.number (follows asker.entry.link.now (Sec file index))) self.old self.new
+            × AreShared asker.entry.link.now shared.new self.new) }
     {
-        match group_place(link, file, index) {
-            Some(place) => self.take_member(link, number, file, index, place, shared, distance),
+        match group_place(asker.link, file, index) {
+            Some(place) => self.take_member(asker, (file, index), place, shared),
             None => {
-                self.take_all(
-                    link,
-                    number,
-                    successors(link, Unit::Sec(file, index)),
-                    distance,
-                )?;
+                self.take_all(asker, successors(asker.link, Unit::Sec(file, index)))?;
                 Ok(())
             }
         }
@@ -280,33 +309,29 @@ impl Search {
     /// group stands.
     fn take_member(
         &mut self,
-        link: &LinkInput,
-        number: u32,
-        file: FileId,
-        index: u32,
+        asker: Asker<'_>,
+        section: (FileId, u32),
         place: usize,
         shared: &mut Shared,
-        distance: u32,
     ) -> Result<(), AllocError>
-        requires well_formed { IsWellFormed link.now }
-        requires sized { IsSized (asking link.now) self.old }
-        requires distance { 0 < distance }
-        requires number { number ≡ unit_number link.now.groups (Sec file index) }
-        requires found { 0 < far self.old number }
-        requires below { IsBelow self.old distance number }
-        requires shared { AreShared link.now shared.old self.old }
-        requires place { IsGroupPlace link.now file index place }
+        requires well_formed { IsWellFormed asker.link.now }
+        requires sized { IsSized (asking asker.link.now) self.old }
+        requires distance { 0 < asker.distance }
+        requires number { asker.number ≡ unit_number asker.link.now.groups (Sec section.0 section.1) }
+        requires found { 0 < far self.old asker.number }
+        requires below { IsBelow self.old asker.distance asker.number }
+        requires shared { AreShared asker.link.now shared.old self.old }
+        requires place { IsGroupPlace asker.link.now section.0 section.1 place }
         ensures { OnOk result
-            (Takes (asking link.now) distance (with_asker number (follows link.now (Sec file index))) self.old self.new × AreShared link.now shared.new self.new) }
+            (Takes (asking asker.entry.link.now) asker.entry.distance (with_asker asker.entry.number (follows asker.entry.link.now (Sec section.0 section.1))) self.old self.new
+            × AreShared asker.entry.link.now shared.new self.new) }
     {
         if is_marked(shared.groups.as_slice(), place) {
-            return self.take_references(link, number, file, index, distance);
+            return self.take_references(asker, section.0, section.1);
         }
         self.take_all(
-            link,
-            number,
-            successors(link, Unit::Sec(file, index)),
-            distance,
+            asker,
+            successors(asker.link, Unit::Sec(section.0, section.1)),
         )?;
         shared.groups[place] = true;
         Ok(())
@@ -315,20 +340,18 @@ impl Search {
     /// Takes what a section asks for by its relocations.
     fn take_references(
         &mut self,
-        link: &LinkInput,
-        number: u32,
+        asker: Asker<'_>,
         id: FileId,
         index: u32,
-        distance: u32,
     ) -> Result<(), AllocError>
-        requires well_formed { IsWellFormed link.now }
-        requires sized { IsSized (asking link.now) self.old }
-        requires distance { 0 < distance }
-        requires below { IsBelow self.old distance number }
-        ensures { OnOk result (Takes (asking link.now) distance (with_asker number (asked_references link.now id index)) self.old self.new) }
+        requires well_formed { IsWellFormed asker.link.now }
+        requires sized { IsSized (asking asker.link.now) self.old }
+        requires distance { 0 < asker.distance }
+        requires below { IsBelow self.old asker.distance asker.number }
+        ensures { OnOk result (Takes (asking asker.entry.link.now) asker.entry.distance (with_asker asker.entry.number (asked_references asker.entry.link.now id index)) self.old self.new) }
     {
-        match references_of(link, id, index) {
-            Some(references) => { self.take_relocations(link, number, references, distance) }
+        match references_of(asker.link, id, index) {
+            Some(references) => self.take_relocations(asker, references),
             None => Ok(()),
         }
     }
@@ -336,67 +359,53 @@ impl Search {
     /// Takes what relocations refer to.
     fn take_relocations(
         &mut self,
-        link: &LinkInput,
-        asker: u32,
+        asker: Asker<'_>,
         references: References<'_>,
-        distance: u32,
     ) -> Result<(), AllocError>
-        requires well_formed { IsWellFormed link.now }
+        requires well_formed { IsWellFormed asker.link.now }
         requires numbers { All (λ (r : Relocation). references.first + r.symbol < 2 ^ 32) references.relocations.now }
-        requires inside { All (IsInside link.now.groups) (references_in references) }
-        requires sized { IsSized (asking link.now) self.old }
-        requires distance { 0 < distance }
-        requires below { IsBelow self.old distance asker }
-        ensures { OnOk result (Takes (asking link.now) distance (with_asker asker (references_in references.entry)) self.old self.new) }
+        requires inside { All (IsInside asker.link.now.groups) (references_in references) }
+        requires sized { IsSized (asking asker.link.now) self.old }
+        requires distance { 0 < asker.distance }
+        requires below { IsBelow self.old asker.distance asker.number }
+        ensures { OnOk result (Takes (asking asker.entry.link.now) asker.entry.distance (with_asker asker.entry.number (references_in references.entry)) self.old self.new) }
     {
         for relocation in references.relocations {
             if let Some(ask) = reference(references.first, references.symbols, *relocation) {
-                self.take(link, asker, ask, distance)?;
+                self.take(asker, ask)?;
             }
         }
         Ok(())
     }
 
     /// Takes what a unit asks for.
-    fn take_all(
-        &mut self,
-        link: &LinkInput,
-        asker: u32,
-        asks: Successors<'_>,
-        distance: u32,
-    ) -> Result<(), AllocError>
-        requires well_formed { IsWellFormed link.now }
-        requires inside { All (IsInside link.now.groups) asks }
-        requires sized { IsSized (asking link.now) self.old }
-        requires distance { 0 < distance }
-        requires below { IsBelow self.old distance asker }
-        ensures { OnOk result (Takes (asking link.now) distance (with_asker asker asks.entry) self.old self.new) }
+    fn take_all(&mut self, asker: Asker<'_>, asks: Successors<'_>) -> Result<(), AllocError>
+        requires well_formed { IsWellFormed asker.link.now }
+        requires inside { All (IsInside asker.link.now.groups) asks }
+        requires sized { IsSized (asking asker.link.now) self.old }
+        requires distance { 0 < asker.distance }
+        requires below { IsBelow self.old asker.distance asker.number }
+        ensures { OnOk result (Takes (asking asker.entry.link.now) asker.entry.distance (with_asker asker.entry.number asks.entry) self.old self.new) }
     {
         for ask in asks {
-            self.take(link, asker, ask, distance)?;
+            self.take(asker, ask)?;
         }
         Ok(())
     }
 
     /// Takes an ask of a unit; no asker so far is greater.
-    fn take(
-        &mut self,
-        link: &LinkInput,
-        asker: u32,
-        ask: Ask,
-        distance: u32,
-    ) -> Result<(), AllocError>
-        requires well_formed { IsWellFormed link.now }
-        requires inside { IsInside link.now.groups ask }
-        requires sized { IsSized (asking link.now) self.old }
-        requires distance { 0 < distance }
-        requires below { IsBelow self.old distance asker }
-        ensures { OnOk result (Takes (asking link.now) distance (with_asker asker (ask ∷ [])) self.old self.new) }
+    fn take(&mut self, asker: Asker<'_>, ask: Ask) -> Result<(), AllocError>
+        requires well_formed { IsWellFormed asker.link.now }
+        requires inside { IsInside asker.link.now.groups ask }
+        requires sized { IsSized (asking asker.link.now) self.old }
+        requires distance { 0 < asker.distance }
+        requires below { IsBelow self.old asker.distance asker.number }
+        ensures { OnOk result (Takes (asking asker.entry.link.now) asker.entry.distance (with_asker asker.entry.number (ask ∷ [])) self.old self.new) }
     {
         match ask {
-            Ask::Reference(symbol, _) => self.meet(symbol.as_usize(), asker, distance),
-            Ask::Section(file, index) => match section_number(link, file, index) {
-                Some(number) => self.meet(number, asker, distance),
+            Ask::Reference(symbol, _) => self.meet(symbol.as_usize(), asker.number, asker.distance),
+            Ask::Section(file, index) => match section_number(asker.link, file, index) {
+                Some(number) => self.meet(number, asker.number, asker.distance),
                 None => Ok(()),
             },
             Ask::Mark(_, _) => Ok(()),

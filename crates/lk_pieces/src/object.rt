@@ -188,20 +188,35 @@ fn read_alone<T: Element, M: Others>(
     Some((lists, others))
 }
 
-/// The same, while so many other workers read the pieces between those and the last.
+/// An object in pieces that are shared out: the caller reads the first ones and the last.
+#[derive(Clone, Copy)]
+struct SharedObject<'a> {
+    first: &'a [u8],
+    /// The pieces behind the first that the caller reads too.
+    near: &'a [&'a [u8]],
+    /// Those between them and the last, which other workers read.
+    far: &'a [&'a [u8]],
+    last: &'a [u8],
+}
+
+/// The same, while so many other workers read the pieces that are far.
 fn read_beside<T: Element + Send, M: Others, R: Threads + Sync>(
     rt: &R,
     alloc: Global,
-    first: &[u8],
-    near: &[&[u8]],
-    far: &[&[u8]],
-    last: &[u8],
+    object: SharedObject<'_>,
     key: &str,
     workers: usize,
 ) -> Option<(Vec<Row<T::Item>>, M)>
     requires { 0 < workers }
-    ensures { IfSome result (λ r. HoldsList T.described key.now (joined (first.now ∷ (bytes_of near.now ++ bytes_of far.now)) last.now) r.0.items (M.members r.1)) }
+    ensures { IfSome result (λ r. HoldsList T.described key.now
+        (joined (object.entry.first.now ∷ (bytes_of object.entry.near.now ++ bytes_of object.entry.far.now)) object.entry.last.now) r.0.items (M.members r.1)) }
 {
+    let SharedObject {
+        first,
+        near,
+        far,
+        last,
+    } = object;
     let (between, ends) = join(
         rt,
         || -> Option<Vec<Option<Part<T::Item>>>>
@@ -269,5 +284,11 @@ pub fn read_object_by_workers<T: Element + Send, M: Others, G: Guess, R: Threads
         return read_alone::<T, _>(alloc, first, pieces, last, key);
     }
     let others = workers.saturating_sub(1).min(far.len()).max(1);
-    read_beside::<T, _, _>(rt, alloc, first, near, far, last, key, others)
+    let object = SharedObject {
+        first,
+        near,
+        far,
+        last,
+    };
+    read_beside::<T, _, _>(rt, alloc, object, key, others)
 }

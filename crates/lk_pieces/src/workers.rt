@@ -33,20 +33,29 @@ fn share<'a, 'b>(pieces: &'b [&'a [u8]], size: usize, worker: usize) -> &'b [&'a
     &rest[..size]
 }
 
+/// Pieces that workers share.
+#[derive(Clone, Copy)]
+struct Shares<'a> {
+    pieces: &'a [&'a [u8]],
+    /// How deep their items may nest.
+    depth: usize,
+    /// How many pieces each worker reads at most.
+    size: usize,
+}
+
 /// What a worker reads of its pieces.
 fn read_share<T: Element>(
     alloc: Global,
-    pieces: &[&[u8]],
-    depth: usize,
-    size: usize,
+    shares: &Shares<'_>,
     worker: usize,
 ) -> Option<Part<T::Item>>
-    ensures { ReadsShare T.described depth size pieces.now worker result }
+    ensures { ReadsShare T.described shares.now.depth shares.now.size shares.now.pieces.now worker result }
 {
     let mut scratch = Scratch::new(alloc);
-    let pieces = share(pieces, size, worker);
+    let pieces = share(shares.pieces, shares.size, worker);
     let within = seem_within(pieces);
-    let all = read_in_turn::<T>(alloc, nothing(alloc, within), pieces, &mut scratch, depth)?;
+    let front = nothing(alloc, within);
+    let all = read_in_turn::<T>(alloc, front, pieces, &mut scratch, shares.depth)?;
     Some(Part {
         within,
         closed: all.closed,
@@ -58,21 +67,19 @@ fn read_share<T: Element>(
 fn read_each<T: Element + Send, R: Threads + Sync>(
     rt: &R,
     alloc: Global,
-    pieces: &[&[u8]],
-    depth: usize,
-    size: usize,
+    shares: &Shares<'_>,
     workers: usize,
 ) -> Result<Vec<Option<Part<T::Item>>>, AllocError>
     ensures count { IfOk result (λ answers. vec_len answers ≡ workers) }
-    ensures each { IfOk result (λ answers. ReadShares T.described depth size pieces.now workers answers.items) }
+    ensures each { IfOk result (λ answers. ReadShares T.described shares.now.depth shares.now.size shares.now.pieces.now workers answers.items) }
 {
     map_indices(
         rt,
         alloc,
         workers,
         &|worker: usize| -> Option<Part<T::Item>>
-            ensures { ReadsShare T.described depth size pieces.entry.now worker result }
-        { read_share::<T>(alloc, pieces, depth, size, worker) },
+            ensures { ReadsShare T.described shares.entry.now.depth shares.entry.now.size shares.entry.now.pieces.now worker result }
+        { read_share::<T>(alloc, shares, worker) },
     )
 }
 
@@ -89,7 +96,12 @@ pub(crate) fn read_shares<T: Element + Send, R: Threads + Sync>(
 {
     let size = share_size(pieces.len(), workers).max(1);
     let sharers = share_size(pieces.len(), size);
-    let Ok(answers) = read_each::<T, _>(rt, alloc, pieces, depth, size, sharers) else {
+    let shares = Shares {
+        pieces,
+        depth,
+        size,
+    };
+    let Ok(answers) = read_each::<T, _>(rt, alloc, &shares, sharers) else {
         return None;
     };
     Some(answers)

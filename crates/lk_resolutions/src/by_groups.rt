@@ -31,7 +31,9 @@ ghost use Rattle.lk_resolutions.specs.Tables.{AreMergedOf};
 
 use crate::addresses::{Addresses, LentLink, PlacedParts, found_addresses};
 use crate::entries::NextEntries;
-use crate::resolution::{Tables, first_cursors, first_symbol_of, push_file_resolutions, take_own};
+use crate::resolution::{
+    NumberedSymbol, Tables, first_cursors, first_symbol_of, push_file_resolutions, take_own,
+};
 use lk_link::{FileId, FileRef, InputFile, LinkInput, Platform};
 use lk_live::Live;
 use lk_merge::MergedStringsSection;
@@ -181,7 +183,8 @@ fn pass_file<P: Platform>(
     let symbols = file.file.symbols.as_slice();
     for (index, symbol) in symbols.iter().enumerate() {
         let number = first + index as u32;
-        let _taken = take_own(platform, tables, next, file, number, symbol);
+        let numbered = NumberedSymbol { number, symbol };
+        let _taken = take_own(platform, tables, next, file, numbered);
     }
 }
 

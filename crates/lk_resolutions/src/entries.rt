@@ -32,24 +32,23 @@ fn address_if(is_named: bool, address: Option<u64>) -> Option<u64>
     if is_named { address } else { None }
 }
 
-/// The resolution of a symbol with these flags, this value and this number in the dynamic symbol table. Its entries take their bytes
+/// The resolution of a symbol with these flags, the value 0 and this number in the dynamic symbol table. Its entries take their bytes
 /// at the cursors, as far as the plan names parts for them. The platform is asked only where the flags want an entry, as few do.
 pub(crate) fn take_entries<P: Platform>(
     platform: &P,
     named: &NamedParts,
     cursors: &mut TableCursors,
     flags: ValueFlags,
-    raw_value: u64,
     dynamic: Option<u32>,
 ) -> Resolution
     requires got { is_some named.now.got ≡ true → cursors.now.got + ((P.table_sizes platform.now).allocation flags.0).got < 2 ^ 64 }
     requires plt { is_some named.now.plt ≡ true → cursors.now.plt + ((P.table_sizes platform.now).allocation flags.0).plt < 2 ^ 64 }
-    ensures made { result ≡ made_at named.now cursors.old ((P.table_sizes platform.now).allocation flags.0) flags raw_value dynamic }
+    ensures made { result ≡ made_at named.now cursors.old ((P.table_sizes platform.now).allocation flags.0) flags 0 dynamic }
     ensures moved { cursors.new ≡ cursors_behind named.now cursors.old ((P.table_sizes platform.now).allocation flags.0) }
 {
     if !flags.wants_table_entry() {
         return Resolution {
-            raw_value,
+            raw_value: 0,
             flags,
             dynamic,
             got: None,
@@ -64,7 +63,7 @@ pub(crate) fn take_entries<P: Platform>(
         got: cursor_if(has_got, cursors.got, 0),
         plt: cursor_if(has_plt, cursors.plt, 0),
     };
-    let resolution = platform.create_resolution(flags, raw_value, dynamic, &mut at);
+    let resolution = platform.create_resolution(flags, 0, dynamic, &mut at);
     *cursors = TableCursors {
         got: cursor_if(has_got, at.got, cursors.got),
         plt: cursor_if(has_plt, at.plt, cursors.plt),

@@ -152,8 +152,21 @@ fn check_relocations(link: &LinkInput, live: &Live) -> Result<(), MergeOffsetPla
     Ok(())
 }
 
+/// A file whose relocations are looked at.
+#[derive(Clone, Copy)]
+struct ReferringFile<'a> {
+    link: &'a LinkInput,
+    file: FileRef<'a>,
+    /// The number of the first of its symbols.
+    first: u32,
+}
+
 /// Refuses the first relocation of a file that refers outside.
-fn check_file(link: &LinkInput, live: &Live, file: FileRef<'_>) -> Result<(), MergeOffsetPlace>
+fn check_file<'a>(
+    link: &'a LinkInput,
+    live: &Live,
+    file: FileRef<'a>,
+) -> Result<(), MergeOffsetPlace>
     requires good { IsWellFormed link.now }
     requires there { file_in link.now.groups file.id ≡ Some file.file.now }
     ensures { StopsAtFirst (relocations_outside link.now live.now (file_of file.entry)) result }
@@ -164,83 +177,76 @@ fn check_file(link: &LinkInput, live: &Live, file: FileRef<'_>) -> Result<(), Me
     let Some(numbers) = link.groups.symbol_id_range(file.id) else {
         return Ok(());
     };
-    let first = numbers.start().as_u32();
+    let at = ReferringFile {
+        link,
+        file,
+        first: numbers.start().as_u32(),
+    };
     for (index, section) in file.file.sections.as_slice().iter().enumerate() {
         let is_live = is_marked(live.marks.as_slice(), start + index);
-        check_section(link, is_live, first, file, index as u32, section)?;
+        check_section(at, is_live, index as u32, section)?;
     }
     Ok(())
 }
 
-/// Refuses the first relocation of a section that refers outside, if the section is live and has no debug data. `first` is the
-/// number of the first of the file's symbols.
+/// Refuses the first relocation of a section that refers outside, if the section is live and has no debug data.
 fn check_section(
-    link: &LinkInput,
+    at: ReferringFile<'_>,
     is_live: bool,
-    first: u32,
-    file: FileRef<'_>,
     index: u32,
     section: &InputSection,
 ) -> Result<(), MergeOffsetPlace>
-    requires good { IsWellFormed link.now }
-    requires there { file_in link.now.groups file.id ≡ Some file.file.now }
-    requires section { slice_get file.file.now.sections index ≡ Some section.now }
-    requires first { first ≡ first_symbol link.now.groups file.id }
-    ensures { StopsAtFirst (outside_in link.now is_live (file_of file.entry) (index, section.now)) result }
+    requires good { IsWellFormed at.link.now }
+    requires there { file_in at.link.now.groups at.file.id ≡ Some at.file.file.now }
+    requires section { slice_get at.file.file.now.sections index ≡ Some section.now }
+    requires first { at.first ≡ first_symbol at.link.now.groups at.file.id }
+    ensures { StopsAtFirst (outside_in at.entry.link.now is_live (file_of at.entry.file) (index, section.now)) result }
 {
     if !is_live || !section.slot.is_regular() {
         return Ok(());
     }
     for (number, relocation) in section.relocs.as_slice().iter().enumerate() {
-        check_relocation(link, first, file, index, number as u32, *relocation)?;
+        check_relocation(at, index, number as u32, *relocation)?;
     }
     Ok(())
 }
 
 /// Refuses a relocation, by its index in its section, that refers outside.
 fn check_relocation(
-    link: &LinkInput,
-    first: u32,
-    file: FileRef<'_>,
+    at: ReferringFile<'_>,
     section: u32,
     number: u32,
     relocation: Relocation,
 ) -> Result<(), MergeOffsetPlace>
-    requires good { IsWellFormed link.now }
-    requires there { file_in link.now.groups file.id ≡ Some file.file.now }
-    requires number { first + relocation.symbol < 2 ^ 32 }
-    requires first { first ≡ first_symbol link.now.groups file.id }
-    ensures { StopsAtFirst (relocation_outside link.now (file_of file.entry) section (number, relocation)) result }
+    requires good { IsWellFormed at.link.now }
+    requires there { file_in at.link.now.groups at.file.id ≡ Some at.file.file.now }
+    requires number { at.first + relocation.symbol < 2 ^ 32 }
+    requires first { at.first ≡ first_symbol at.link.now.groups at.file.id }
+    ensures { StopsAtFirst (relocation_outside at.entry.link.now (file_of at.entry.file) section (number, relocation)) result }
 {
     if resolution_flags(relocation.kind).0 == 0 {
         return Ok(());
     }
-    if reference_outside(link, first, file, relocation.symbol, relocation.addend) {
-        return Err(MergeOffsetPlace::OfRelocation(file.id, section, number));
+    if reference_outside(at, relocation.symbol, relocation.addend) {
+        return Err(MergeOffsetPlace::OfRelocation(at.file.id, section, number));
     }
     Ok(())
 }
 
 /// Whether a reference of a file to one of its symbols, by the index there, with an addend, refers outside. What stands for the
 /// symbol is looked up by its number only if it is another one.
-fn reference_outside(
-    link: &LinkInput,
-    first: u32,
-    file: FileRef<'_>,
-    index: u32,
-    addend: i64,
-) -> bool
-    requires good { IsWellFormed link.now }
-    requires there { file_in link.now.groups file.id ≡ Some file.file.now }
-    requires number { first + index < 2 ^ 32 }
-    requires first { first ≡ first_symbol link.now.groups file.id }
-    ensures { result ≡ refers_outside link.now (local_definition first file.entry.file.now.symbols index) addend }
+fn reference_outside(at: ReferringFile<'_>, index: u32, addend: i64) -> bool
+    requires good { IsWellFormed at.link.now }
+    requires there { file_in at.link.now.groups at.file.id ≡ Some at.file.file.now }
+    requires number { at.first + index < 2 ^ 32 }
+    requires first { at.first ≡ first_symbol at.link.now.groups at.file.id }
+    ensures { result ≡ refers_outside at.entry.link.now (local_definition at.entry.first at.entry.file.file.now.symbols index) addend }
 {
-    match file.file.symbols.get(index as usize) {
+    match at.file.file.symbols.get(index as usize) {
         Some(symbol) => match symbol.def {
-            Some(definition) => refers_outside(link, definition, addend),
-            None => refers_outside_in(link, file, symbol, addend),
+            Some(definition) => refers_outside(at.link, definition, addend),
+            None => refers_outside_in(at.link, at.file, symbol, addend),
         },
-        None => refers_outside(link, SymbolId::from_u32(first + index), addend),
+        None => refers_outside(at.link, SymbolId::from_u32(at.first + index), addend),
     }
 }

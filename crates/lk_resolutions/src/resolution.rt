@@ -97,6 +97,13 @@ pub(crate) struct FileAtHand<'a> {
     entries: Option<&'a RelaxDeltaMap>,
 }
 
+/// A symbol with its number.
+#[derive(Clone, Copy)]
+pub(crate) struct NumberedSymbol<'a> {
+    pub(crate) number: u32,
+    pub(crate) symbol: &'a InputSymbol,
+}
+
 /// For each symbol of the link its resolution, if it has one. `numbers` are the next in the dynamic symbol table at the first.
 pub(crate) fn resolve_all<P: Platform>(
     alloc: Global,
@@ -234,7 +241,8 @@ fn push_resolutions<P: Platform>(
     let symbols = at_hand.file.file.symbols.as_slice();
     for (index, symbol) in symbols.iter().enumerate() {
         let number = at_hand.first_symbol + index as u32;
-        let resolution = resolve(platform, tables, next, at_hand, number, symbol);
+        let numbered = NumberedSymbol { number, symbol };
+        let resolution = resolve(platform, tables, next, at_hand, numbered);
         resolutions.push(resolution)?;
     }
     Ok(())
@@ -250,47 +258,46 @@ pub(crate) fn flags_at(live: &Live, number: u32) -> ValueFlags
     }
 }
 
-/// The resolution of a symbol of a file, with this number, if it has one. What it takes in tables is taken, whether or not it is worth
+/// The resolution of a symbol of a file, if it has one. What it takes in tables is taken, whether or not it is worth
 /// anything.
 fn resolve<P: Platform>(
     platform: &P,
     tables: &Tables<'_>,
     next: &mut NextEntries,
     at_hand: &FileAtHand<'_>,
-    number: u32,
-    symbol: &InputSymbol,
+    numbered: NumberedSymbol<'_>,
 ) -> Option<Resolution>
     requires tables { AreAtHand (P.table_sizes platform.now) tables.now }
     requires file { IsAtHand tables.now at_hand.now }
-    requires there { slice_get (numbered_symbols tables.now.merged.link.now.groups) number ≡ Some (file_of at_hand.now.file, symbol.now) }
-    requires stands { StandsAtHand tables.now at_hand.now symbol.now.at }
-    requires next { AreNextAt (setting_at_hand (P.table_sizes platform.now) tables.now) number next.now }
+    requires there { slice_get (numbered_symbols tables.now.merged.link.now.groups) numbered.number ≡ Some (file_of at_hand.now.file, numbered.symbol.now) }
+    requires stands { StandsAtHand tables.now at_hand.now numbered.symbol.now.at }
+    requires next { AreNextAt (setting_at_hand (P.table_sizes platform.now) tables.now) numbered.number next.now }
     ensures value { result ≡ resolution_of (places_at_hand tables.now) (setting_at_hand (P.table_sizes platform.now) tables.now)
-        at_hand.now.file.file.now.kind at_hand.now.first_input (number, symbol.now) }
-    ensures moved { AreNextAt (setting_at_hand (P.table_sizes platform.now) tables.now) (number + 1) next.new }
+        at_hand.now.file.file.now.kind at_hand.now.first_input (numbered.entry.number, numbered.entry.symbol.now) }
+    ensures moved { AreNextAt (setting_at_hand (P.table_sizes platform.now) tables.now) (numbered.entry.number + 1) next.new }
 {
-    let taken = take_own(platform, tables, next, at_hand.file, number, symbol)?;
-    let raw_value = symbol_value(tables, at_hand, number, symbol)?;
+    let taken = take_own(platform, tables, next, at_hand.file, numbered)?;
+    let raw_value = symbol_value(tables, at_hand, numbered.number, numbered.symbol)?;
     Some(Resolution { raw_value, ..taken })
 }
 
-/// What a symbol of a file, with this number, takes in tables: its resolution with the value 0; none where nothing asks for it.
+/// What a symbol of a file takes in tables: its resolution with the value 0; none where nothing asks for it.
 pub(crate) fn take_own<P: Platform>(
     platform: &P,
     tables: &Tables<'_>,
     next: &mut NextEntries,
     file: FileRef<'_>,
-    number: u32,
-    symbol: &InputSymbol,
+    numbered: NumberedSymbol<'_>,
 ) -> Option<Resolution>
     requires tables { AreAtHand (P.table_sizes platform.now) tables.now }
-    requires there { slice_get (numbered_symbols tables.now.merged.link.now.groups) number ≡ Some (file_of file, symbol.now) }
-    requires next { AreNextAt (setting_at_hand (P.table_sizes platform.now) tables.now) number next.now }
-    ensures taken { result ≡ unplaced_resolution (setting_at_hand (P.table_sizes platform.now) tables.now) file.entry.file.now.kind (number, symbol.now) }
-    ensures moved { AreNextAt (setting_at_hand (P.table_sizes platform.now) tables.now) (number + 1) next.new }
+    requires there { slice_get (numbered_symbols tables.now.merged.link.now.groups) numbered.number ≡ Some (file_of file, numbered.symbol.now) }
+    requires next { AreNextAt (setting_at_hand (P.table_sizes platform.now) tables.now) numbered.number next.now }
+    ensures taken { result ≡ unplaced_resolution (setting_at_hand (P.table_sizes platform.now) tables.now) file.entry.file.now.kind (numbered.entry.number, numbered.entry.symbol.now) }
+    ensures moved { AreNextAt (setting_at_hand (P.table_sizes platform.now) tables.now) (numbered.entry.number + 1) next.new }
 {
     let (link, told) = (tables.merged.link, tables.told);
     let kind = file.file.kind;
+    let NumberedSymbol { number, symbol } = numbered;
     let id = SymbolId::from_u32(number);
     let dynamic = next.numbers.take(link, tables.live, told, file, id, symbol);
     let flags = late_flags(link, told, kind, id, symbol, flags_at(tables.live, number));
@@ -298,7 +305,7 @@ pub(crate) fn take_own<P: Platform>(
         return None;
     }
     let named = &link.plan.named;
-    Some(take_entries(platform, named, &mut next.cursors, flags, 0, dynamic))
+    Some(take_entries(platform, named, &mut next.cursors, flags, dynamic))
 }
 
 /// What a symbol of a file, with this number, is worth by its placement, if anything.

@@ -1,7 +1,6 @@
 -- Where the first object stands, with the primary bytes of all files, stays below 2^64: both are parts of all sizes.
 use Rattle.std.proofs.Common.{◌≡◌, ℕ, suc, ◌+◌, ◌<◌, ◌≤◌, ◌^◌, ◌&&◌, not, Bool, true, false, cond, if◌then◌else◌, List, [], ◌∷◌, filter, length, map, sum, sum_by, Option, Some, None, refl, ap, sym, subst, ◌∙◌, arith, inl, inr}
 use Rattle.std.specs.List.{enumerate_from, flat_map, slice_get}
-use Rattle.std.specs.Int.{next_multiple_of}
 use Rattle.std.proofs.lemmas.Bool.Decides.{eqb_tells}
 use Rattle.std.proofs.lemmas.List.{map-append}
 use Rattle.std.proofs.lemmas.List.Sums.{sum-map, sum_by-append, sum_by-cons, sum_by-le-sum_by}
@@ -15,11 +14,9 @@ use Rattle.lk_link.specs.Inputs.{Input, NumberedFile, first_input, inputs_from, 
 use Rattle.lk_link.specs.Marks.{is_marked}
 use Rattle.lk_link.specs.PartRules.{is_part}
 use Rattle.lk_link.specs.Parts.{all_parts, part_at}
-use Rattle.lk_link.specs.Sizes.{capacity}
 use Rattle.lk_link.specs.WellFormed.{IsWellFormed}
 use Rattle.lk_link.proofs.Elements.{at_index}
 use Rattle.lk_link.proofs.GoodLinks.{part_alignment-pos}
-use Rattle.lk_link.proofs.Starts.{next_multiple_is_least}
 use Rattle.lk_live.specs.declared.live.Live.{Live}
 use Rattle.lk_live.specs.Reach.{live_inputs}
 use Rattle.lk_reach.proofs.Numbered.{sections_of}

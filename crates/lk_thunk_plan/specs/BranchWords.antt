@@ -1,5 +1,5 @@
--- Words of private contracts: what branches go by as the code has it, what is at hand of a file, and the next object of a walk over
--- files.
+-- Words of contracts: what branches go by as the code has it; of private ones also what is at hand of a file, and the next object of a
+-- walk over files.
 use Rattle.std.specs.Prelude.{◌≡◌, ℕ, ◌<◌, ◌≤◌, ◌==◌, ◌&&◌, Bool, if◌then◌else◌, List, Option, Some, None, IfSome, option_and_then, option_map, slice_get}
 use Rattle.std.specs.Option.{option_copied}
 use Rattle.lk_link.specs.declared.ids.FileId.{FileId}

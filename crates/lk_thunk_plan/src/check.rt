@@ -14,7 +14,7 @@ ghost use Rattle.lk_link.specs.WellFormed.{IsWellFormed};
 ghost use Rattle.lk_thunks.specs.Reach.{is_near};
 ghost use Rattle.lk_thunks.specs.SetLaws.{IsRising};
 ghost use Rattle.lk_stops.specs.Stops.{StopsAtFirst};
-ghost use Rattle.lk_thunk_plan.specs.Branches.{block_of, branch_target, branching, file_unreached, is_given_later, is_reaching, relocation_unreached, section_unreached, standing_of, target_of, thunk_in, thunks_of, unreached};
+ghost use Rattle.lk_thunk_plan.specs.Branches.{block_of, branch_target, file_unreached, is_given_later, is_reaching, relocation_unreached, section_unreached, standing_of, target_of, thunk_in, thunks_of, unreached};
 ghost use Rattle.lk_thunk_plan.specs.BranchWords.{IsAtHand, SpotRises, block_next, branching_of, standing_at};
 ghost use Rattle.lk_thunk_plan.specs.Orders.{IsInOrder};
 
@@ -62,22 +62,25 @@ impl fmt::Display for BranchPlace {
 
 /// What branches go by.
 #[derive(Clone, Copy)]
-pub(crate) struct Branches<'a> {
-    link: &'a LinkInput,
-    live: &'a Live,
-    plan: &'a ThunkPlan,
+pub struct Branches<'a> {
+    pub link: &'a LinkInput,
+    pub live: &'a Live,
+    pub plan: &'a ThunkPlan,
     /// Where the thunks of each block begin.
-    places: &'a [Option<u64>],
+    pub places: &'a [Option<u64>],
     /// Of input sections, by number over all files.
-    addresses: &'a [u64],
+    pub addresses: &'a [u64],
     /// What is deleted of the sections of each file, by the file's number over all groups.
-    deltas: &'a [RelaxDeltaMap],
-    resolutions: &'a SymbolResolutions,
+    pub deltas: &'a [RelaxDeltaMap],
+    /// What symbols stand for.
+    pub resolutions: &'a SymbolResolutions,
 }
 
 /// A file whose branches are looked at.
 #[derive(Clone, Copy)]
 pub(crate) struct BranchFile<'a> {
+    /// How thunks are made.
+    config: &'a ThunkConfig,
     file: FileRef<'a>,
     /// The number of its first section over all files.
     start: usize,
@@ -100,40 +103,22 @@ pub(crate) struct Spot<'a> {
     thunks: Option<(u64, &'a ThunkBlock)>,
 }
 
-/// Refuses the first live branch that reaches neither its target nor the thunk for it, by where the thunks of each block begin, the
-/// addresses of input sections by number over all files, what is deleted of the sections of each file by its number over all groups, and
-/// what symbols stand for. Nothing is refused where no thunks are made. Looks once at each relocation of live sections; takes no memory,
-/// and for each branch logarithmic time in what is deleted of its section, for one whose target isn't near also in a block's thunks.
-pub fn check_branches(
-    link: &LinkInput,
-    live: &Live,
-    plan: &ThunkPlan,
-    places: &[Option<u64>],
-    addresses: &[u64],
-    deltas: &[RelaxDeltaMap],
-    resolutions: &SymbolResolutions,
-) -> Result<(), BranchPlace>
-    requires good { IsWellFormed link.now }
-    requires order { IsInOrder link.now plan.now }
-    ensures { StopsAtFirst (unreached (branching link.now live.now plan.now places.now addresses.now deltas.now resolutions.now)) result }
+/// Refuses the first live branch that reaches neither its target nor the thunk for it. Nothing is refused where no thunks are made. Looks
+/// once at each relocation of live sections; takes no memory, and for each branch logarithmic time in what is deleted of its section, for
+/// one whose target isn't near also in a block's thunks.
+pub fn check_branches(by: &Branches<'_>) -> Result<(), BranchPlace>
+    requires good { IsWellFormed by.now.link.now }
+    requires order { IsInOrder by.now.link.now by.now.plan.now }
+    ensures { StopsAtFirst (unreached (branching_of by.now)) result }
 {
-    let Some(config) = &plan.config else {
+    let Some(config) = &by.plan.config else {
         return Ok(());
     };
-    let by = Branches {
-        link,
-        live,
-        plan,
-        places,
-        addresses,
-        deltas,
-        resolutions,
-    };
-    check_files(&by, config)
+    check_files(by, config)
 }
 
 /// Refuses the first branch of all files that doesn't reach.
-fn check_files(by: &Branches<'_>, config: &ThunkConfig) -> Result<(), BranchPlace>
+fn check_files<'a>(by: &Branches<'a>, config: &'a ThunkConfig) -> Result<(), BranchPlace>
     requires good { IsWellFormed by.now.link.now }
     requires order { IsInOrder by.now.link.now by.now.plan.now }
     ensures { StopsAtFirst (flat_map (file_unreached (branching_of by.now) config.now) (numbered_files by.now.link.now.groups)) result }
@@ -167,7 +152,7 @@ fn take_block(
 /// Refuses the first branch of a file that doesn't reach. `block` is that of the file.
 fn check_file<'a>(
     by: &Branches<'a>,
-    config: &ThunkConfig,
+    config: &'a ThunkConfig,
     file: FileRef<'a>,
     block: Option<usize>,
 ) -> Result<(), BranchPlace>
@@ -184,6 +169,7 @@ fn check_file<'a>(
         return Ok(());
     };
     let at = BranchFile {
+        config,
         file,
         start,
         first: numbers.start().as_u32(),
@@ -191,7 +177,7 @@ fn check_file<'a>(
         entries: map_of(by.link, by.deltas, file.id),
     };
     for (index, section) in file.file.sections.as_slice().iter().enumerate() {
-        check_section(by, config, &at, index as u32, section)?;
+        check_section(by, &at, index as u32, section)?;
     }
     Ok(())
 }
@@ -199,7 +185,6 @@ fn check_file<'a>(
 /// Refuses the first branch of a section with this index that doesn't reach, if the section is live and loaded for what it holds.
 fn check_section<'a>(
     by: &Branches<'a>,
-    config: &ThunkConfig,
     at: &BranchFile<'a>,
     index: u32,
     section: &InputSection,
@@ -208,7 +193,7 @@ fn check_section<'a>(
     requires sets { All IsRising (map (λ b. b.symbols) by.now.plan.now.blocks) }
     requires file { IsAtHand (branching_of by.now) at.now }
     requires section { slice_get at.now.file.file.now.sections index ≡ Some section.now }
-    ensures { StopsAtFirst (section_unreached (branching_of by.now) config.now (file_of at.now.file) (index, section.now)) result }
+    ensures { StopsAtFirst (section_unreached (branching_of by.now) at.now.config.now (file_of at.now.file) (index, section.now)) result }
 {
     let number = at.start + index as usize;
     if !is_marked(by.live.marks.as_slice(), number) || !section.slot.is_regular() {
@@ -216,7 +201,7 @@ fn check_section<'a>(
     }
     let spot = spot_of(by, at, number, index, section);
     for (place, relocation) in section.relocs.as_slice().iter().enumerate() {
-        check_relocation(by, config, at, spot, index, place as u32, *relocation)?;
+        check_relocation(by, at, spot, (index, place as u32), *relocation)?;
     }
     Ok(())
 }
@@ -267,33 +252,37 @@ fn thunks_of<'a>(by: &Branches<'a>, block: Option<usize>) -> Option<(u64, &'a Th
     Some((begin, thunks))
 }
 
-/// Refuses a relocation, by its index in its section, if a thunk may stand in for it and it doesn't reach.
+/// Refuses a relocation, by the index of its section and its own there, if a thunk may stand in for it and it doesn't reach.
 fn check_relocation(
     by: &Branches<'_>,
-    config: &ThunkConfig,
     at: &BranchFile<'_>,
     spot: Spot<'_>,
-    section: u32,
-    number: u32,
+    place: (u32, u32),
     relocation: Relocation,
 ) -> Result<(), BranchPlace>
     requires rising { SpotRises spot }
     requires first { at.now.first ≡ first_symbol by.now.link.now.groups at.now.file.id }
     requires number { at.now.first + relocation.symbol < 2 ^ 32 }
-    ensures { StopsAtFirst (relocation_unreached (branching_of by.now) config.now (file_of at.now.file) section (standing_at spot.entry) (number, relocation)) result }
+    ensures { StopsAtFirst (relocation_unreached (branching_of by.now) at.now.config.now (file_of at.now.file) place.0 (standing_at spot.entry) (place.1, relocation)) result }
 {
     if !relocation.thunkable {
         return Ok(());
     }
     let symbols = at.file.file.symbols.as_slice();
     let definition = local_definition(at.first, symbols, relocation.symbol);
-    if is_reaching(config, by.resolutions, spot, relocation.offset, definition) {
+    if is_reaching(
+        at.config,
+        by.resolutions,
+        spot,
+        relocation.offset,
+        definition,
+    ) {
         return Ok(());
     }
     Err(BranchPlace {
         file: at.file.id,
-        section,
-        relocation: number,
+        section: place.0,
+        relocation: place.1,
     })
 }
 

@@ -10,6 +10,6 @@ pub mod laws;
 pub mod places;
 pub mod thunk_plan;
 
-pub use check::{BranchPlace, check_branches};
+pub use check::{BranchPlace, Branches, check_branches};
 pub use places::{block_owners, block_places};
 pub use thunk_plan::{ThunkPlan, plan_thunks};

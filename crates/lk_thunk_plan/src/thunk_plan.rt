@@ -66,7 +66,8 @@ pub fn plan_thunks<A: Arch>(
     let Some(builder) = builder_for(link, &config) else {
         return Ok(unplanned(alloc, Some(config)));
     };
-    planned(alloc, link, live, owners.contents(), config, builder)
+    let making = Making { config, builder };
+    planned(alloc, link, live, owners.contents(), making)
 }
 
 /// The planning of a link, where thunks are made so, if they are planned.
@@ -93,28 +94,34 @@ fn unplanned(alloc: Global, config: Option<ThunkConfig>) -> ThunkPlan
     }
 }
 
+/// How thunks are made, and the planning by that.
+#[derive(Clone, Copy)]
+struct Making {
+    config: ThunkConfig,
+    builder: ThunkLayoutBuilder,
+}
+
 /// The thunks of a link for which they are planned.
 fn planned(
     alloc: Global,
     link: &LinkInput,
     live: &Live,
     contents: &[PartContents],
-    config: ThunkConfig,
-    builder: ThunkLayoutBuilder,
+    making: Making,
 ) -> Result<ThunkPlan, AllocError>
     requires good { IsWellFormed link.now }
     requires live { AreLive link.now live.now }
-    requires lawful { IsLawfulConfig link.now config }
+    requires lawful { IsLawfulConfig link.now making.config }
     requires filled { (sizes : TableSizes) × (lens : List ℕ) × (contents.now ≡ part_contents (plain_filling (content_of link.now sizes live.now lens)))
         × (sum_refusal (plain_filling (content_of link.now sizes live.now lens)) ≡ None) }
     ensures { (sizes : TableSizes) (lens : List ℕ) → contents.now ≡ part_contents (plain_filling (content_of link.now sizes live.now lens))
-        → IfOk result (IsPlannedFrom link.now live.now (Some config) builder (code_before (plain_filling (content_of link.now sizes live.now lens)))) }
+        → IfOk result (IsPlannedFrom link.now live.now (Some making.config) making.builder (code_before (plain_filling (content_of link.now sizes live.now lens)))) }
 {
     let start = code_before(alloc, link, live, contents)?;
-    let (blocks, users) = builder.build(alloc, link, live, start)?;
-    let owners = owners_among(alloc, config.thunk_size, &blocks, &users)?;
+    let (blocks, users) = making.builder.build(alloc, link, live, start)?;
+    let owners = owners_among(alloc, making.config.thunk_size, &blocks, &users)?;
     Ok(ThunkPlan {
-        config: Some(config),
+        config: Some(making.config),
         blocks: List::from_vec(blocks),
         users: List::from_vec(users),
         owners: List::from_vec(owners),

@@ -1,5 +1,5 @@
 -- Where symbols are at home, by numbers.
-use Rattle.std.proofs.Common.{◌≡◌, ◌++◌, ◌∷◌, ◌∙◌, ◌+◌, ◌<◌, ◌^◌, arith, length, sum_by, IsSome, subst, ℕ, zero, suc, Bool, true, false, if◌then◌else◌, not, ◌&&◌, List, [], map, Option, Some, None, refl, sym, ap, option_map}
+use Rattle.std.proofs.Common.{◌≡◌, ◌++◌, ◌∷◌, ◌∙◌, ◌+◌, ◌<◌, ◌^◌, arith, IsSome, ℕ, zero, suc, Bool, true, false, if◌then◌else◌, not, ◌&&◌, List, [], map, Option, Some, None, refl, sym, ap, option_map}
 use Rattle.std.specs.Prelude.{option_and_then, slice_get, slice_index}
 use Rattle.std.specs.List.{flat_map}
 use Rattle.std.proofs.lemmas.List.{map-append}
@@ -10,8 +10,8 @@ use Rattle.lk_link.specs.declared.ids.FileId.{FileId}
 use Rattle.lk_link.specs.declared.link.LinkInput.{LinkInput}
 use Rattle.lk_link.specs.declared.symbol.InputSymbol.{InputSymbol}
 use Rattle.lk_link.specs.Files.{file_in}
-use Rattle.lk_link.specs.Inputs.{NumberedFile, numbered_files}
-use Rattle.lk_link.specs.NumberedSymbols.{known_symbol, numbered_symbols, symbols_of}
+use Rattle.lk_link.specs.Inputs.{NumberedFile}
+use Rattle.lk_link.specs.NumberedSymbols.{numbered_symbols, symbols_of}
 use Rattle.lk_link.specs.Symbols.{file_number}
 use Rattle.lk_live.specs.PrimaryMarks.{is_primary_symbol}
 use Rattle.lk_link.specs.Symbols.{all_files}

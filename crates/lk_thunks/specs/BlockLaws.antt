@@ -1,5 +1,5 @@
 -- What holds of blocks and of the objects that are assigned to them.
-use Rattle.std.specs.Prelude.{◌≡◌, ℕ, ◌+◌, ◌-◌, ◌<◌, ◌≤◌, ◌==◌, Bool, true, List, Some, length, slice_get}
+use Rattle.std.specs.Prelude.{◌≡◌, ℕ, ◌+◌, ◌<◌, ◌≤◌, ◌==◌, Bool, true, List, Some, length, slice_get}
 use Rattle.lk_link.specs.declared.ids.FileId.{FileId}
 use Rattle.lk_thunks.specs.declared.blocks.Block.{Block}
 use Rattle.lk_thunks.specs.Blocks.{assigned, object_at, thunk_blocks}

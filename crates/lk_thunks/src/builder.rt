@@ -124,8 +124,9 @@ impl ThunkLayoutBuilder {
             range: self.branch_range,
             ranges: &ranges,
             homes: &homes,
+            elsewhere: &elsewhere,
         };
-        let sets = thunk_sets(alloc, &by, &objects, &blocks, &elsewhere)?;
+        let sets = thunk_sets(alloc, &by, &objects, &blocks)?;
         let users = assigned_of(alloc, &objects, &blocks)?;
         Ok((sets, users))
     }

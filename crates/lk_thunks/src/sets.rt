@@ -139,6 +139,18 @@ pub(crate) struct Planner<'a> {
     pub(crate) ranges: &'a [(FileId, u64, u64)],
     /// In which file each symbol is at home.
     pub(crate) homes: &'a [u32],
+    /// For each symbol whether it is in the primary part and a live section of another part names it where a thunk may stand in.
+    pub(crate) elsewhere: &'a [bool],
+}
+
+/// An object whose symbols are looked at for a block.
+#[derive(Clone, Copy)]
+pub(crate) struct UserOfBlock<'a> {
+    by: &'a Planner<'a>,
+    /// The stamp of the block.
+    stamp: u32,
+    /// Where the object's primary bytes begin and end.
+    object: (FileId, u64, u64),
 }
 
 /// Whether a flag is among some.
@@ -238,47 +250,43 @@ fn is_noted(stamps: &[u32], stamp: u32, definition: SymbolId) -> bool
 
 /// Takes in what an object needs for a symbol of its file. One whose definition is taken in already isn't looked at further.
 fn add_symbol(
-    by: &Planner<'_>,
+    user: &UserOfBlock<'_>,
     set: &mut Vec<SymbolId>,
     stamps: &mut [u32],
-    stamp: u32,
-    object: (FileId, u64, u64),
     number: SymbolId,
     symbol: &InputSymbol,
 ) -> Result<(), AllocError>
-    requires { by.now.homes.now ≡ home_numbers by.now.link.now }
+    requires { user.now.by.now.homes.now ≡ home_numbers user.now.by.now.link.now }
     ensures count { length stamps.new ≡ length stamps.old }
-    ensures noted { (test : ℕ → Bool) → AreNoted stamp test stamps.old set.old.items
-        → OnOk result (AreNoted stamp (λ d. test d || is_needed_for (planning_of by.now) object d (number, symbol.now)) stamps.new set.new.items) }
+    ensures noted { (test : ℕ → Bool) → AreNoted user.now.stamp test stamps.old set.old.items
+        → OnOk result (AreNoted user.now.stamp (λ d. test d || is_needed_for (planning_of user.now.by.now) user.now.object d (number, symbol.now)) stamps.new set.new.items) }
 {
     let definition = symbol.def.unwrap_or(number);
-    if is_noted(stamps, stamp, definition) {
+    if is_noted(stamps, user.stamp, definition) {
         return Ok(());
     }
-    let wanted = needs(by, object, number, symbol);
-    note(set, stamps, stamp, definition, wanted)
+    let wanted = needs(user.by, user.object, number, symbol);
+    note(set, stamps, user.stamp, definition, wanted)
 }
 
 /// Takes in what an object needs for some symbols of its file, the first of them with this number.
 fn add_symbols(
-    by: &Planner<'_>,
+    user: &UserOfBlock<'_>,
     set: &mut Vec<SymbolId>,
     stamps: &mut [u32],
-    stamp: u32,
-    object: (FileId, u64, u64),
     first: u32,
     symbols: &[InputSymbol],
 ) -> Result<(), AllocError>
-    requires homes { by.now.homes.now ≡ home_numbers by.now.link.now }
+    requires homes { user.now.by.now.homes.now ≡ home_numbers user.now.by.now.link.now }
     requires numbers { first + length symbols.now < 2 ^ 32 }
     ensures count { length stamps.new ≡ length stamps.old }
-    ensures noted { (test : ℕ → Bool) → AreNoted stamp test stamps.old set.old.items
-        → OnOk result (AreNoted stamp (λ d. test d || list_any (is_needed_for (planning_of by.now) object d) (enumerate_from first symbols.now))
+    ensures noted { (test : ℕ → Bool) → AreNoted user.now.stamp test stamps.old set.old.items
+        → OnOk result (AreNoted user.now.stamp (λ d. test d || list_any (is_needed_for (planning_of user.now.by.now) user.now.object d) (enumerate_from first symbols.now))
         stamps.new set.new.items) }
 {
     for (index, symbol) in symbols.iter().enumerate() {
         let number = SymbolId::from_u32(first + index as u32);
-        add_symbol(by, set, stamps, stamp, object, number, symbol)?;
+        add_symbol(user, set, stamps, number, symbol)?;
     }
     Ok(())
 }
@@ -299,16 +307,9 @@ fn add_object(
 {
     if let Some(file) = by.link.groups.file(object.0) {
         if let Some(numbers) = by.link.groups.symbol_id_range(object.0) {
+            let user = UserOfBlock { by, stamp, object };
             let first = numbers.start().as_u32();
-            add_symbols(
-                by,
-                set,
-                stamps,
-                stamp,
-                object,
-                first,
-                file.symbols.as_slice(),
-            )?;
+            add_symbols(&user, set, stamps, first, file.symbols.as_slice())?;
         }
     }
     Ok(())
@@ -358,12 +359,11 @@ fn thunk_set(
     stamps: &mut [u32],
     number: u32,
     objects: &[(FileId, u64, u64)],
-    elsewhere: &[bool],
 ) -> Result<ThunkBlock, AllocError>
     requires good { IsWellFormed by.now.link.now }
     requires homes { by.now.homes.now ≡ home_numbers by.now.link.now }
     requires number { number + 1 < 2 ^ 32 }
-    requires marks { AreElsewhere by.now.link.now by.now.live.now elsewhere.now }
+    requires marks { AreElsewhere by.now.link.now by.now.live.now by.now.elsewhere.now }
     requires stamps { AreFresh (planning_of by.now) number stamps.old }
     ensures set { IfOk result (λ block. block.symbols ≡ thunk_set (planning_of by.now) number objects.now) }
     ensures stamps { OnOk result (AreFresh (planning_of by.now) (number + 1) stamps.new) }
@@ -373,7 +373,7 @@ fn thunk_set(
     for object in objects {
         add_object(by, &mut symbols, stamps, stamp, *object)?;
     }
-    add_elsewhere(&mut symbols, stamps, stamp, number, elsewhere)?;
+    add_elsewhere(&mut symbols, stamps, stamp, number, by.elsewhere)?;
     let block = ThunkBlockBuilder { symbols }.build()?;
     Ok(block)
 }
@@ -392,22 +392,21 @@ pub(crate) fn thunk_sets(
     by: &Planner<'_>,
     objects: &[(FileId, u64, u64)],
     blocks: &[Block],
-    elsewhere: &[bool],
 ) -> Result<Vec<ThunkBlock>, AllocError>
     requires good { IsWellFormed by.now.link.now }
     requires homes { by.now.homes.now ≡ home_numbers by.now.link.now }
     requires few { length blocks.now + 1 < 2 ^ 32 }
-    requires marks { AreElsewhere by.now.link.now by.now.live.now elsewhere.now }
+    requires marks { AreElsewhere by.now.link.now by.now.live.now by.now.elsewhere.now }
     ensures { IfOk result (λ sets. map (λ b. b.symbols) sets.items ≡ sets_of (planning_of by.now) objects.now blocks.now) }
 {
     let mut stamps = no_stamps(alloc, by.link.groups.symbol_count() as usize)?;
     let mut sets = Vec::with_capacity(alloc, blocks.len())?;
     for (number, block) in blocks.iter().enumerate() {
         let users = objects_of(objects, *block);
-        sets.push(thunk_set(alloc, by, &mut stamps, number as u32, users, elsewhere)?)?;
+        sets.push(thunk_set(alloc, by, &mut stamps, number as u32, users)?)?;
     }
     if blocks.is_empty() {
-        sets.push(thunk_set(alloc, by, &mut stamps, 0, &[], elsewhere)?)?;
+        sets.push(thunk_set(alloc, by, &mut stamps, 0, &[])?)?;
     }
     Ok(sets)
 }

@@ -13,18 +13,18 @@ use Rattle.lk_resolutions.proofs.outside.check_section.Goals as goal
 
 pub overflow_cast-number : goal.overflow_cast-number
 overflow_cast-number c =
-    let few = lists_of c.args.link.now c.args.file.id c.args.index c.args.file.file.now c.args.section.now c.requires.good c.requires.there c.requires.section in
+    let few = lists_of c.args.at.link.now c.args.at.file.id c.args.index c.args.at.file.file.now c.args.section.now c.requires.good c.requires.there c.requires.section in
     omega (arith, few.0, ap length c.as_slice-relocation-items.ensures, c.loop-number-test.true)
 
 pub check_relocation-requires-clause-number : goal.check_relocation-requires-clause-number
 check_relocation-requires-clause-number c =
     let regular : is_regular c.args.section.now.slot ≡ true = sym c.is_regular.ensures ∙ c.if-not-is_regular.false in
-    relocations_from c.args.link.now c.args.file.id c.args.file.file.now c.args.index c.args.section.now c.args.first c.as_slice-relocation-items.result.now
+    relocations_from c.args.at.link.now c.args.at.file.id c.args.at.file.file.now c.args.index c.args.section.now c.args.at.first c.as_slice-relocation-items.result.now
     c.requires.good c.requires.there c.requires.section regular c.requires.first c.as_slice-relocation-items.ensures c.loop-number.number _ c.loop-number-test.true
 
 pub returns-in_err-check_relocation : goal.returns-in_err-check_relocation
 returns-in_err-check_relocation c =
-    let f = relocation_outside c.args.link.now (file_of c.args.file) c.args.index in
+    let f = relocation_outside c.args.at.link.now (file_of c.args.at.file) c.args.index in
     let relocs : List Relocation = c.args.section.now.relocs in
     let all : List MergeOffsetPlace = flat_map f (enumerate_from 0 relocs) in
     let regular : is_regular c.args.section.now.slot ≡ true = sym c.is_regular.ensures ∙ c.if-not-is_regular.false in
@@ -38,13 +38,13 @@ returns-in_err-check_relocation c =
 
 pub loop-number-preserved : goal.loop-number-preserved
 loop-number-preserved c =
-    let f = relocation_outside c.args.link.now (file_of c.args.file) c.args.index in
+    let f = relocation_outside c.args.at.link.now (file_of c.args.at.file) c.args.index in
     one_more f 0 c.args.section.now.relocs c.as_slice-relocation-items.result.now c.loop-number.number c.loop-number.number _ c.as_slice-relocation-items.ensures c.loop-number-test.true (omega arith)
     c.loop-number.invariant c.in_ok-check_relocation.ensures
 
 pub returns : goal.returns
 returns c =
-    let f = relocation_outside c.args.link.now (file_of c.args.file) c.args.index in
+    let f = relocation_outside c.args.at.link.now (file_of c.args.at.file) c.args.index in
     let relocs : List Relocation = c.args.section.now.relocs in
     let all : List MergeOffsetPlace = flat_map f (enumerate_from 0 relocs) in
     let regular : is_regular c.args.section.now.slot ≡ true = sym c.is_regular.ensures ∙ c.if-not-is_regular.false in

@@ -6,4 +6,4 @@ use Rattle.lk_resolutions.proofs.outside.check_section.Given as goal
 
 -- none of the relocations so far refers outside
 abbrev pub invariant-loop-number : goal.invariant-loop-number
-invariant-loop-number l = flat_map (relocation_outside l.link (file_of l.file) l.index) (take l.number (enumerate_from 0 l.section.relocs)) ≡ []
+invariant-loop-number l = flat_map (relocation_outside l.at.link.now (file_of l.at.file) l.index) (take l.number (enumerate_from 0 l.section.relocs)) ≡ []

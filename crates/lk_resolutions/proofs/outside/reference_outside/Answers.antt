@@ -23,15 +23,15 @@ stands_for_itself first index x o there own =
 
 pub returns-in-None-def : goal.returns-in-None-def
 returns-in-None-def c =
-    let link = c.args.link.now in
+    let link = c.args.at.link.now in
     let groups = link.groups in
-    let file : InputFile = c.args.file.file.now in
+    let file : InputFile = c.args.at.file.file.now in
     let x : InputSymbol = c.in-Some.symbol.now in
     let there : slice_get file.symbols c.args.index ≡ Some x = sym c.in-Some.ensures in
-    let at = stands groups c.args.file.id file c.args.index x c.requires.there there in
-    let own : local_definition c.args.first file.symbols c.args.index ≡ first_symbol groups c.args.file.id + c.args.index
-    = stands_for_itself c.args.first c.args.index x (slice_get file.symbols c.args.index) there c.in-None-def.is ∙ ap (λ n. n + c.args.index) c.requires.first in
-    let q : NumberedFile × InputSymbol = (file_of c.args.file, x) in
+    let at = stands groups c.args.at.file.id file c.args.index x c.requires.there there in
+    let own : local_definition c.args.at.first file.symbols c.args.index ≡ first_symbol groups c.args.at.file.id + c.args.index
+    = stands_for_itself c.args.at.first c.args.index x (slice_get file.symbols c.args.index) there c.in-None-def.is ∙ ap (λ n. n + c.args.index) c.requires.first in
+    let q : NumberedFile × InputSymbol = (file_of c.args.at.file, x) in
     c.refers_outside_in.ensures
     ∙ ap (λ (z : ℤ). is_reference_outside z (merge_place groups q)) (to_z-of_z c.ranges.addend)
     ∙ ap (λ (o : Option (NumberedFile × InputSymbol)). is_reference_outside c.args.addend (option_and_then (merge_place groups) o)) (sym at)

@@ -13,7 +13,7 @@ pub returns-clause-value : goal.returns-clause-value
 returns-clause-value g c =
     let by : EntrySetting = setting_at_hand (g.P.Platform.table_sizes c.args.platform.now) c.args.tables.now in
     let places : ValueAddresses = places_at_hand c.args.tables.now in
-    let q : ℕ × InputSymbol = (c.args.number, c.args.symbol.now) in
+    let q : ℕ × InputSymbol = (c.args.numbered.number, c.args.numbered.symbol.now) in
     let with_value : Option ℕ → Option Resolution → Option Resolution = λ value taken. option_and_then (λ r. option_map (λ n. valued n r) value) taken in
     sym (placed_is places by c.args.at_hand.now.file.file.now.kind c.args.at_hand.now.first_input q
     ∙ ap (with_value _) (sym c.in_ok-taken.ensures.taken)

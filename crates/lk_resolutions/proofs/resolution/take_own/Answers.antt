@@ -35,8 +35,8 @@ pub returns-then-not-is_wanted-clause-moved : goal.returns-then-not-is_wanted-cl
 returns-then-not-is_wanted-clause-moved g c =
     let by : EntrySetting = setting_at_hand (g.P.Platform.table_sizes c.args.platform.now) c.args.tables.now in
     let f : NumberedFile = file_of c.args.file in
-    let s : ℕ = c.args.number in
-    let x : InputSymbol = c.args.symbol.now in
+    let s : ℕ = c.args.numbered.number in
+    let x : InputSymbol = c.args.numbered.symbol.now in
     let told = are_told by f.file.kind s c.from_u32-id.result x c.flags_at.result c.late_flags-flags.result c.from_u32-id.ensures c.flags_at.ensures c.late_flags-flags.ensures in
     let unwanted = tested by f.file.kind s c.from_u32-id.result x c.late_flags-flags.result _ false c.from_u32-id.ensures told c.is_wanted.ensures c.if-not-is_wanted.true in
     next_kept by s f x c.args.next.now _ c.requires.there unwanted c.requires.next
@@ -46,8 +46,8 @@ pub take_entries-requires-clause-got : goal.take_entries-requires-clause-got
 take_entries-requires-clause-got g c =
     let by : EntrySetting = setting_at_hand (g.P.Platform.table_sizes c.args.platform.now) c.args.tables.now in
     let f : NumberedFile = file_of c.args.file in
-    let s : ℕ = c.args.number in
-    let x : InputSymbol = c.args.symbol.now in
+    let s : ℕ = c.args.numbered.number in
+    let x : InputSymbol = c.args.numbered.symbol.now in
     let flags : ValueFlags = c.late_flags-flags.result in
     let told = are_told by f.file.kind s c.from_u32-id.result x c.flags_at.result flags c.from_u32-id.ensures c.flags_at.ensures c.late_flags-flags.ensures in
     let wanted = tested by f.file.kind s c.from_u32-id.result x flags _ true c.from_u32-id.ensures told c.is_wanted.ensures c.if-not-is_wanted.false in
@@ -60,8 +60,8 @@ pub take_entries-requires-clause-plt : goal.take_entries-requires-clause-plt
 take_entries-requires-clause-plt g c =
     let by : EntrySetting = setting_at_hand (g.P.Platform.table_sizes c.args.platform.now) c.args.tables.now in
     let f : NumberedFile = file_of c.args.file in
-    let s : ℕ = c.args.number in
-    let x : InputSymbol = c.args.symbol.now in
+    let s : ℕ = c.args.numbered.number in
+    let x : InputSymbol = c.args.numbered.symbol.now in
     let flags : ValueFlags = c.late_flags-flags.result in
     let told = are_told by f.file.kind s c.from_u32-id.result x c.flags_at.result flags c.from_u32-id.ensures c.flags_at.ensures c.late_flags-flags.ensures in
     let wanted = tested by f.file.kind s c.from_u32-id.result x flags _ true c.from_u32-id.ensures told c.is_wanted.ensures c.if-not-is_wanted.false in
@@ -74,8 +74,8 @@ pub returns-clause-moved : goal.returns-clause-moved
 returns-clause-moved g c =
     let by : EntrySetting = setting_at_hand (g.P.Platform.table_sizes c.args.platform.now) c.args.tables.now in
     let f : NumberedFile = file_of c.args.file in
-    let s : ℕ = c.args.number in
-    let x : InputSymbol = c.args.symbol.now in
+    let s : ℕ = c.args.numbered.number in
+    let x : InputSymbol = c.args.numbered.symbol.now in
     let flags : ValueFlags = c.late_flags-flags.result in
     let told = are_told by f.file.kind s c.from_u32-id.result x c.flags_at.result flags c.from_u32-id.ensures c.flags_at.ensures c.late_flags-flags.ensures in
     let wanted = tested by f.file.kind s c.from_u32-id.result x flags _ true c.from_u32-id.ensures told c.is_wanted.ensures c.if-not-is_wanted.false in
@@ -88,8 +88,8 @@ pub returns-clause-taken : goal.returns-clause-taken
 returns-clause-taken g c =
     let by : EntrySetting = setting_at_hand (g.P.Platform.table_sizes c.args.platform.now) c.args.tables.now in
     let f : NumberedFile = file_of c.args.file in
-    let s : ℕ = c.args.number in
-    let x : InputSymbol = c.args.symbol.now in
+    let s : ℕ = c.args.numbered.number in
+    let x : InputSymbol = c.args.numbered.symbol.now in
     let flags : ValueFlags = c.late_flags-flags.result in
     let told = are_told by f.file.kind s c.from_u32-id.result x c.flags_at.result flags c.from_u32-id.ensures c.flags_at.ensures c.late_flags-flags.ensures in
     let wanted = tested by f.file.kind s c.from_u32-id.result x flags _ true c.from_u32-id.ensures told c.is_wanted.ensures c.if-not-is_wanted.false in
@@ -104,8 +104,8 @@ pub returns-then-not-is_wanted-clause-taken : goal.returns-then-not-is_wanted-cl
 returns-then-not-is_wanted-clause-taken g c =
     let by : EntrySetting = setting_at_hand (g.P.Platform.table_sizes c.args.platform.now) c.args.tables.now in
     let f : NumberedFile = file_of c.args.file in
-    let s : ℕ = c.args.number in
-    let x : InputSymbol = c.args.symbol.now in
+    let s : ℕ = c.args.numbered.number in
+    let x : InputSymbol = c.args.numbered.symbol.now in
     let told = are_told by f.file.kind s c.from_u32-id.result x c.flags_at.result c.late_flags-flags.result c.from_u32-id.ensures c.flags_at.ensures c.late_flags-flags.ensures in
     let unwanted = tested by f.file.kind s c.from_u32-id.result x c.late_flags-flags.result _ false c.from_u32-id.ensures told c.is_wanted.ensures c.if-not-is_wanted.true in
     sym (unwanted_unplaced by f.file.kind (s, x) unwanted)

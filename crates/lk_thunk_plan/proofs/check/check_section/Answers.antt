@@ -43,7 +43,7 @@ returns-in_err-check_relocation c =
     let by : Branching = branching_of c.args.by.now in
     let spot : standing_at c.spot_of-spot.result ≡ standing_of by c.args.at.now.file.id (c.args.index, c.args.section.now)
     = c.spot_of-spot.ensures.spot in
-    let f : BranchOrigin → ℕ × Relocation → List BranchPlace = relocation_unreached by c.args.config.now (file_of c.args.at.now.file) c.args.index in
+    let f : BranchOrigin → ℕ × Relocation → List BranchPlace = relocation_unreached by c.args.at.now.config.now (file_of c.args.at.now.file) c.args.index in
     let relocs : List Relocation = c.args.section.now.relocs in
     let all : List BranchPlace = flat_map (f (standing_of by c.args.at.now.file.id (c.args.index, c.args.section.now))) (enumerate_from 0 relocs) in
     let regular : is_regular c.args.section.now.slot ≡ true = sym c.is_regular.ensures ∙ c.if-not-is_regular.false in
@@ -63,7 +63,7 @@ loop-place-preserved c =
     let by : Branching = branching_of c.args.by.now in
     let spot : standing_at c.spot_of-spot.result ≡ standing_of by c.args.at.now.file.id (c.args.index, c.args.section.now)
     = c.spot_of-spot.ensures.spot in
-    let f : BranchOrigin → ℕ × Relocation → List BranchPlace = relocation_unreached by c.args.config.now (file_of c.args.at.now.file) c.args.index in
+    let f : BranchOrigin → ℕ × Relocation → List BranchPlace = relocation_unreached by c.args.at.now.config.now (file_of c.args.at.now.file) c.args.index in
     let relocs : List Relocation = c.args.section.now.relocs in
     let so_far = ap (λ (s : BranchOrigin). flat_map (f s) (take c.loop-place.place (enumerate_from 0 relocs))) spot ∙ c.loop-place.invariant in
     ap (λ (s : BranchOrigin). flat_map (f s) (take (c.loop-place.place + 1) (enumerate_from 0 relocs))) (sym spot)
@@ -73,7 +73,7 @@ loop-place-preserved c =
 pub returns : goal.returns
 returns c =
     let by : Branching = branching_of c.args.by.now in
-    let f = relocation_unreached by c.args.config.now (file_of c.args.at.now.file) c.args.index (standing_of by c.args.at.now.file.id (c.args.index, c.args.section.now)) in
+    let f = relocation_unreached by c.args.at.now.config.now (file_of c.args.at.now.file) c.args.index (standing_of by c.args.at.now.file.id (c.args.index, c.args.section.now)) in
     let relocs : List Relocation = c.args.section.now.relocs in
     let all : List BranchPlace = flat_map f (enumerate_from 0 relocs) in
     let regular : is_regular c.args.section.now.slot ≡ true = sym c.is_regular.ensures ∙ c.if-not-is_regular.false in

@@ -8,5 +8,5 @@ use Rattle.lk_thunk_plan.proofs.check.check_section.Given as goal
 -- all relocations so far reach
 abbrev pub invariant-loop-place : goal.invariant-loop-place
 invariant-loop-place l =
-    flat_map (relocation_unreached (branching_of l.by) l.config (file_of l.at.file) l.index (standing_of (branching_of l.by) l.at.file.id (l.index, l.section)))
+    flat_map (relocation_unreached (branching_of l.by) l.at.config.now (file_of l.at.file) l.index (standing_of (branching_of l.by) l.at.file.id (l.index, l.section)))
     (take l.place (enumerate_from 0 l.section.relocs)) ≡ []

@@ -50,14 +50,14 @@ start_is link live config sizes lens start good lawful none is =
 pub build-requires-clause-room : goal.build-requires-clause-room
 build-requires-clause-room c =
     let from = c.requires.filled in
-    (start_is c.args.link.now c.args.live.now c.args.config from.0 from.1 c.in_ok-start.start c.requires.good c.requires.lawful from.3 (c.in_ok-start.ensures from.0 from.1 from.2)).1
+    (start_is c.args.link.now c.args.live.now c.args.making.config from.0 from.1 c.in_ok-start.start c.requires.good c.requires.lawful from.3 (c.in_ok-start.ensures from.0 from.1 from.2)).1
 
 pub owners_among-requires : goal.owners_among-requires
 owners_among-requires c = record {
   small = c.requires.lawful.small;
   few = subst (All (λ (set : List ℕ). length set < 2 ^ 32))
       (sym (ap (map (λ (b : ThunkBlock). b.symbols)) c.deref.ensures.value ∙ c.in_ok-blocks.ensures.sets))
-      (sets_few c.args.link.now c.args.live.now c.args.builder c.in_ok-start.start c.requires.good);
+      (sets_few c.args.link.now c.args.live.now c.args.making.builder c.in_ok-start.start c.requires.good);
 }
 
 pub returns : goal.returns
@@ -67,15 +67,15 @@ returns c sizes lens is =
     let from = c.requires.filled in
     let filling : Filling = plain_filling (content_of link sizes live lens) in
     let other : Filling = plain_filling (content_of link from.0 live from.1) in
-    let start = (start_is link live c.args.config from.0 from.1 c.in_ok-start.start c.requires.good c.requires.lawful from.3 (c.in_ok-start.ensures from.0 from.1 from.2)).0 in
+    let start = (start_is link live c.args.making.config from.0 from.1 c.in_ok-start.start c.requires.good c.requires.lawful from.3 (c.in_ok-start.ensures from.0 from.1 from.2)).0 in
     let code : List PartContents → ℕ = λ cs. sum_by (other_code_by link (all_section_attributes link live)) (enumerate_from 0 cs) in
     let begins : c.in_ok-start.start ≡ code_before filling = start ∙ sym (code_of_contents other) ∙ ap code (sym from.2 ∙ is) ∙ code_of_contents filling in
     let symbols : List ThunkBlock → List (List ℕ) = map (λ (b : ThunkBlock). b.symbols) in
     record {
       config = refl;
-      sets = ap symbols c.from_vec.ensures ∙ c.in_ok-blocks.ensures.sets ∙ ap (thunk_sets link live c.args.builder) begins;
-      users = c.from_vec-2.ensures ∙ c.in_ok-blocks.ensures.users ∙ ap (λ n. assigned c.args.builder (planned_objects link live n)) begins;
+      sets = ap symbols c.from_vec.ensures ∙ c.in_ok-blocks.ensures.sets ∙ ap (thunk_sets link live c.args.making.builder) begins;
+      users = c.from_vec-2.ensures ∙ c.in_ok-blocks.ensures.users ∙ ap (λ n. assigned c.args.making.builder (planned_objects link live n)) begins;
       owners = c.from_vec-3.ensures ∙ c.in_ok-owners.ensures
-          ∙ ap (λ (bs : List ThunkBlock). owners_among c.args.config.thunk_size (symbols bs) c.deref-2.result.now) (c.deref.ensures.value ∙ sym c.from_vec.ensures)
-          ∙ ap (λ (us : List (FileId × ℕ × Bool)). owners_among c.args.config.thunk_size (symbols c.from_vec.result) us) (c.deref-2.ensures.value ∙ sym c.from_vec-2.ensures);
+          ∙ ap (λ (bs : List ThunkBlock). owners_among c.args.making.config.thunk_size (symbols bs) c.deref-2.result.now) (c.deref.ensures.value ∙ sym c.from_vec.ensures)
+          ∙ ap (λ (us : List (FileId × ℕ × Bool)). owners_among c.args.making.config.thunk_size (symbols c.from_vec.result) us) (c.deref-2.ensures.value ∙ sym c.from_vec-2.ensures);
     }

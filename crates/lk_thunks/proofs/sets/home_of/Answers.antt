@@ -1,8 +1,7 @@
-use Rattle.std.proofs.Common.{ℕ, sym, ap, ◌∙◌}
+use Rattle.std.proofs.Common.{sym, ap, ◌∙◌}
 use Rattle.std.specs.Prelude.{slice_index}
 use Rattle.lk_thunks.specs.Homes.{range_told}
 use Rattle.lk_thunks.specs.Noting.{planning_of}
-use Rattle.lk_thunks.specs.ThunkSets.{home_of}
 use Rattle.lk_thunks.proofs.HomeNumbers.{home_there}
 use Rattle.lk_thunks.proofs.sets.home_of.Goals as goal
 

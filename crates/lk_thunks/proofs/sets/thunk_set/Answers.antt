@@ -17,7 +17,7 @@ returns-clause-set c =
     let by = planning_of c.args.by.now in
     let i = c.loop-object.object-index in
     let noted = c.in_ok-add_elsewhere.ensures.noted (λ d. list_any (needs_thunk by d) (take i c.args.objects.now)) c.loop-object.invariant.1 in
-    block_made by c.args.number c.args.objects.now c.args.elsewhere.now i (c.args.number + 1) c.add_elsewhere.new.stamps c.add_elsewhere.new.set.items c.in_ok-block.block.symbols c.loop-object-test.false
+    block_made by c.args.number c.args.objects.now c.args.by.now.elsewhere.now i (c.args.number + 1) c.add_elsewhere.new.stamps c.add_elsewhere.new.set.items c.in_ok-block.block.symbols c.loop-object-test.false
     c.requires.marks (c.in_ok-add_elsewhere.ensures.count ∙ c.loop-object.invariant.0 ∙ c.requires.stamps.count) noted c.in_ok-block.ensures
 
 pub returns-clause-stamps : goal.returns-clause-stamps

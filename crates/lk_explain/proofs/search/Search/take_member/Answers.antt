@@ -14,29 +14,29 @@ use Rattle.lk_explain.proofs.search.Search.take_member.Goals as goal
 
 pub returns-then-is_marked : goal.returns-then-is_marked
 returns-then-is_marked c =
-    let link = c.args.link.now in
+    let link = c.args.asker.link.now in
     let old = c.args.self.now in
     let new = c.take_references.new.self in
-    let asks : List Ask = follows link (Sec c.args.file c.args.index) in
-    let T : List Ask → Type 0 = λ xs. Takes (asking link) c.args.distance (with_asker c.args.number xs) old new in
+    let asks : List Ask = follows link (Sec c.args.section.0 c.args.section.1) in
+    let T : List Ask → Type 0 = λ xs. Takes (asking link) c.args.asker.distance (with_asker c.args.asker.number xs) old new in
     let marked : is_marked c.args.shared.now.groups.items c.args.place ≡ true = ap (λ ms. is_marked ms c.args.place) (sym c.as_slice.ensures.value) ∙ sym c.is_marked.ensures ∙ c.if-is_marked.true in
-    on_ok c.take_references.result (T (asked_references link c.args.file c.args.index)) (T asks × AreShared link c.args.shared.now new) c.take_references.ensures
+    on_ok c.take_references.result (T (asked_references link c.args.section.0 c.args.section.1)) (T asks × AreShared link c.args.shared.now new) c.take_references.ensures
     (λ h.
     let all : T asks
-    = takes_references link c.args.shared.now c.args.distance c.args.number c.args.file c.args.index c.args.place old new c.requires.distance c.requires.below c.requires.shared c.requires.place marked h in
-    (all, shared_after link c.args.shared.now c.args.distance (with_asker c.args.number asks) old new c.requires.shared all))
+    = takes_references link c.args.shared.now c.args.asker.distance c.args.asker.number c.args.section.0 c.args.section.1 c.args.place old new c.requires.distance c.requires.below c.requires.shared c.requires.place marked h in
+    (all, shared_after link c.args.shared.now c.args.asker.distance (with_asker c.args.asker.number asks) old new c.requires.shared all))
 
 pub take_all-requires-clause-inside : goal.take_all-requires-clause-inside
 take_all-requires-clause-inside c =
-    let link = c.args.link.now in
-    subst (All (IsInside link.groups)) (sym c.successors.ensures) (asks_are_inside.by_unit link (Sec c.args.file c.args.index) c.requires.well_formed)
+    let link = c.args.asker.link.now in
+    subst (All (IsInside link.groups)) (sym c.successors.ensures) (asks_are_inside.by_unit link (Sec c.args.section.0 c.args.section.1) c.requires.well_formed)
 
 pub returns : goal.returns
 returns c =
-    let link = c.args.link.now in
+    let link = c.args.asker.link.now in
     let old = c.args.self.now in
     let new = c.take_all.new.self in
-    let T : List Ask → Type 0 = λ xs. Takes (asking link) c.args.distance (with_asker c.args.number xs) old new in
-    let takes : T (follows link (Sec c.args.file c.args.index)) = subst T c.successors.ensures c.in_ok-take_all.ensures in
-    let own : 0 < far old (unit_number link.groups (Sec c.args.file c.args.index)) = subst (λ n. 0 < far old n) c.requires.number c.requires.found in
-    (takes, shared_group link c.args.shared.now _ c.args.distance c.args.number c.args.file c.args.index c.args.place old new c.requires.shared c.requires.place own takes refl refl)
+    let T : List Ask → Type 0 = λ xs. Takes (asking link) c.args.asker.distance (with_asker c.args.asker.number xs) old new in
+    let takes : T (follows link (Sec c.args.section.0 c.args.section.1)) = subst T c.successors.ensures c.in_ok-take_all.ensures in
+    let own : 0 < far old (unit_number link.groups (Sec c.args.section.0 c.args.section.1)) = subst (λ n. 0 < far old n) c.requires.number c.requires.found in
+    (takes, shared_group link c.args.shared.now _ c.args.asker.distance c.args.asker.number c.args.section.0 c.args.section.1 c.args.place old new c.requires.shared c.requires.place own takes refl refl)

@@ -11,15 +11,15 @@ use Rattle.lk_explain.proofs.search.Search.take_section.Goals as goal
 
 pub take_all-requires-clause-inside : goal.take_all-requires-clause-inside
 take_all-requires-clause-inside c =
-    let link = c.args.link.now in
+    let link = c.args.asker.link.now in
     subst (All (IsInside link.groups)) (sym c.successors.ensures) (asks_are_inside.by_unit link (Sec c.args.file c.args.index) c.requires.well_formed)
 
 pub returns-in_ok-take_all-in-None : goal.returns-in_ok-take_all-in-None
 returns-in_ok-take_all-in-None c =
-    let link = c.args.link.now in
+    let link = c.args.asker.link.now in
     let old = c.args.self.now in
     let new = c.take_all.new.self in
     let asks : List Ask = follows link (Sec c.args.file c.args.index) in
-    let T : List Ask → Type 0 = λ xs. Takes (asking link) c.args.distance (with_asker c.args.number xs) old new in
+    let T : List Ask → Type 0 = λ xs. Takes (asking link) c.args.asker.distance (with_asker c.args.asker.number xs) old new in
     let takes : T asks = subst T c.successors.ensures c.in_ok-take_all-in-None.ensures in
-    (takes, shared_after link c.args.shared.now c.args.distance (with_asker c.args.number asks) old new c.requires.shared takes)
+    (takes, shared_after link c.args.shared.now c.args.asker.distance (with_asker c.args.asker.number asks) old new c.requires.shared takes)
