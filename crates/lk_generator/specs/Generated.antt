@@ -140,7 +140,7 @@ abbrev pub text_section : ℕ → ℕ → InputSection
 text_section i size = plain_section (if i == 0 then slot.MustLoad else slot.Unloaded) 0 size 4
     (plain_relocation 0 relocation.Relative 3 ∷ plain_relocation 4 relocation.Absolute 4 ∷ plain_relocation 8 relocation.Absolute 2 ∷ [])
 
--- its strings: one of a letter, and one of `x` and a letter
+-- the strings of an object: one of a letter, and one of `x` and a letter
 abbrev pub strings_section : ℕ → ℕ → InputSection
 strings_section first last = record (plain_section slot.Merge 1 5 0 []) { bytes = first ∷ 0 ∷ 120 ∷ last ∷ 0 ∷ []; given = true; strings = true }
 
@@ -156,12 +156,12 @@ object_symbols d =
     ∷ plain_symbol [] (placed.Section 2 0) None ∷ plain_symbol (codes "u") placed.Undef (Some (5 * d.text_target))
     ∷ plain_symbol (codes "v") placed.Undef (Some (5 * d.data_target + 1)) ∷ []
 
--- the sections of object i: its code, its data, and its strings
+-- the sections of object i: its code; its data, in part 2, to be written; and its strings
 abbrev pub object_sections : ℕ → Drawn → List InputSection
 object_sections i d =
     text_section i d.text_size ∷ plain_section slot.Unloaded 2 d.data_size 2 [] ∷ strings_section d.first_letter d.last_letter ∷ []
 
--- a file of a kind, out of no archive, without a name, symbols and sections
+-- a file of a kind, out of no archive, without a name, symbols, sections and candidates
 abbrev pub empty_file : FileKind → InputFile
 empty_file of = record {
   kind = of;

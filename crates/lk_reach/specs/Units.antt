@@ -178,8 +178,9 @@ shown_ask s x = if is_named x && not x.hidden then Some (Reference s flag.EXPORT
 abbrev pub script_symbol_asks : List (List InputFile) → ℕ → InputSymbol → List Ask
 script_symbol_asks groups s x = script_redirect_asks groups s x.at ++ option_to_list (shown_ask s x)
 
--- what a symbol, with its number, of a file of a kind asks for: of an object for its section, if it has one; of a synthetic file, at the
--- start or an end of an output section, for the file's candidates of that section; of a script as above; of another kind for nothing
+-- what a symbol, with its number, of a file of a kind asks for: in an object for its section, if it has one; in a synthetic file, where it
+-- stands at the start or an end of an output section, for the file's candidates of that section; in a script as above; in a file of another
+-- kind for nothing
 abbrev pub kind_asks : List (List InputFile) → ℕ → FileId → InputFile → InputSymbol → FileKind → List Ask
 kind_asks groups s id file x kind.Object = option_to_list (option_map (Section id) (section_of x.at))
 kind_asks groups s id file x kind.SyntheticSymbols = option_map_or (candidate_asks file.candidates) (edge_of x.at) []
@@ -269,7 +270,7 @@ dynamic_roots link f =
 abbrev pub is_script_root : ℕ × InputSymbol → Bool
 is_script_root q = is_canonical q.0 q.1 && not (is_provided q.1.at)
 
--- those of a script's symbols
+-- what a script asks for by its symbols: each that passes, without flags
 abbrev pub wanted_symbol_asks : LinkInput → NumberedFile → List Ask
 wanted_symbol_asks link f =
     map (λ q. Reference q.0 (flags_from 0)) (filter is_script_root (enumerate_from (first_symbol link.groups f.id) f.file.symbols))
@@ -284,9 +285,9 @@ event_asks groups _ = []
 abbrev pub location_asks : LinkInput → List Ask
 location_asks link = flat_map (event_asks link.groups) link.plan.events
 
--- what a file of a kind asks for by itself: the prelude for the entry, and by its symbols; an object for sections, and by what it exports; a
--- script by its symbols, then by the location counter's expressions; synthetic files and those that aren't loaded for nothing
--- (libwild: `activate`)
+-- what a file of a kind asks for by itself: the prelude for the entry, then by its symbols; an object for sections, then by what it exports;
+-- a dynamic file for definitions in other files; a script by its symbols, then by the location counter's expressions; synthetic files and
+-- those that aren't loaded for nothing (libwild: `activate`)
 abbrev pub kind_roots : LinkInput → NumberedFile → FileKind → List Ask
 kind_roots link f kind.Prelude = entry_asks link ++ prelude_symbol_asks link f
 kind_roots link f kind.Object = section_roots link.options.gc f.id 0 f.file.sections ++ export_roots link f

@@ -5,9 +5,9 @@ use Rattle.std.proofs.lemmas.Grind.{flat_map-append}
 use Rattle.std.proofs.lemmas.List.{append-nil, length-take, take-append-drop, take_more}
 use Rattle.lk_link.specs.declared.file.InputFile.{InputFile}
 use Rattle.lk_link.specs.Inputs.{NumberedFile, files_from, group_files, numbered_files}
-use Rattle.lk_size_laws.specs.GroupRanges.{GroupsFollow, address_of_owner, group_owners, owners_before_group, unsorted_owners}
+use Rattle.lk_size_laws.specs.GroupRanges.{GroupsFollow, group_owners, owners_before_group, unsorted_owners}
 use Rattle.lk_sizes.specs.Owners.{EntryOwner, Filling, Owner, file_takers, leading_of, owners_in, sorted_takers}
-use Rattle.lk_sizes.specs.PartOwners.{owners_of, tables_of}
+use Rattle.lk_sizes.specs.PartOwners.{address_of_owner, owners_of, tables_of}
 use Rattle.lk_tables.specs.TableLists.{table_of}
 use Rattle.lk_sizes.proofs.Takers.{owners_in-append}
 

@@ -1,10 +1,9 @@
 -- Where what the files of a group bring stands in a part, sorted sections apart: the groups' ranges follow each other.
 use Rattle.std.specs.Prelude.{◌≡◌, ℕ, ◌+◌, ◌<◌, List, [], ◌++◌, length, take}
-use Rattle.std.specs.List.{flat_map, slice_index, slice_index_or}
+use Rattle.std.specs.List.{flat_map, slice_index_or}
 use Rattle.lk_link.specs.Inputs.{NumberedFile, group_files, numbered_files}
-use Rattle.lk_link.specs.Parts.{part_at}
-use Rattle.lk_sizes.specs.Owners.{Filling, Owner, file_takers, leading_of, owner_address, owners_in}
-use Rattle.lk_sizes.specs.PartOwners.{owners_of}
+use Rattle.lk_sizes.specs.Owners.{Filling, Owner, file_takers, leading_of, owners_in}
+use Rattle.lk_sizes.specs.PartOwners.{address_of_owner, owners_of}
 
 -- what some files bring to a part, sorted sections apart
 abbrev pub unsorted_owners : Filling → ℕ → List NumberedFile → List Owner
@@ -19,12 +18,6 @@ abbrev pub owners_before_group : Filling → ℕ → ℕ → List Owner
 owners_before_group filling p g =
     let link = filling.content.link in
     leading_of link filling.content.merged_lens p ++ unsorted_owners filling p (numbered_files (take g link.groups))
-
--- the address of the owner of a part with this number, by the starts of all parts in memory; behind the last one, where that ends
-abbrev pub address_of_owner : Filling → List ℕ → ℕ → ℕ → ℕ
-address_of_owner filling starts p k =
-    let sections = filling.content.link.plan.sections in
-    owner_address (slice_index starts p) (part_at sections p) (owners_of filling p) k
 
 -- where the range of a group begins in a part, and where it ends
 abbrev pub range_start : Filling → List ℕ → ℕ → ℕ → ℕ

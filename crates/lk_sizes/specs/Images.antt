@@ -9,7 +9,7 @@ use Rattle.lk_link.specs.PartRules.{is_table_part}
 use Rattle.lk_link.specs.WellFormed.{IsWellFormed}
 use Rattle.lk_sizes.specs.Attributes.{by_section, parts_of}
 use Rattle.lk_sizes.specs.Owners.{Filling, ImageOwner, Owner, has_image, is_merged}
-use Rattle.lk_sizes.specs.PartOwners.{numbered_address, owners_of}
+use Rattle.lk_sizes.specs.PartOwners.{address_of_owner, owners_of}
 use Rattle.lk_link.specs.Parts.{part_sections}
 
 -- the part of an output section in which its merged image stands; none where nothing is merged
@@ -28,7 +28,7 @@ image_number filling s p = position_or_len (is_image_of s) (owners_of filling p)
 -- the image's address, by the starts of all parts in memory; 0 where there is no image
 abbrev pub image_address : Filling → List ℕ → ℕ → ℕ
 image_address filling starts s =
-    option_map_or (λ p. numbered_address filling starts p (image_number filling s p)) (image_part filling.content.link s) 0
+    option_map_or (λ p. address_of_owner filling starts p (image_number filling s p)) (image_part filling.content.link s) 0
 
 -- those of the images of all output sections
 abbrev pub image_addresses : Filling → List ℕ → List ℕ

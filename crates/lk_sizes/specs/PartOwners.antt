@@ -46,12 +46,14 @@ abbrev pub thunk_key : LinkInput → Owner → Option ℕ
 thunk_key link (ThunkOwner id size) = Some (file_number link.groups id)
 thunk_key link _ = None
 
--- ---- addresses of live sections
+-- ---- addresses
 
--- the address of the owner of a part with this number, by the starts of all parts in memory
-abbrev pub numbered_address : Filling → List ℕ → ℕ → ℕ → ℕ
-numbered_address filling starts p k =
+-- the address of the owner that stands in a part under this number, by the starts of all parts in memory; behind the last one, where the part ends
+abbrev pub address_of_owner : Filling → List ℕ → ℕ → ℕ → ℕ
+address_of_owner filling starts p k =
     owner_address (slice_index starts p) (part_at filling.content.link.plan.sections p) (owners_of filling p) k
+
+-- ---- addresses of live sections
 
 -- how many owners of its part stand before a live section
 abbrev pub owner_number : Filling → Input → ℕ
@@ -61,7 +63,7 @@ owner_number filling x =
 
 -- a live section's address, by the starts of all parts in memory
 abbrev pub live_address : Filling → List ℕ → Input → ℕ
-live_address filling starts x = numbered_address filling starts x.section.part (owner_number filling x)
+live_address filling starts x = address_of_owner filling starts x.section.part (owner_number filling x)
 
 -- ---- addresses of commons
 
@@ -71,7 +73,7 @@ common_number filling p s = position_or_len (has_key common_key s) (owners_of fi
 
 -- the address of the common of a part with this symbol, by the starts of all parts in memory
 abbrev pub common_address : Filling → List ℕ → ℕ → ℕ → ℕ
-common_address filling starts p s = numbered_address filling starts p (common_number filling p s)
+common_address filling starts p s = address_of_owner filling starts p (common_number filling p s)
 
 -- ---- blocks of thunks
 
@@ -83,7 +85,7 @@ thunk_number filling p id =
 
 -- the address of the block that a file owns in a part, by the starts of all parts in memory
 abbrev pub block_address : Filling → List ℕ → ℕ → FileId → ℕ
-block_address filling starts p id = numbered_address filling starts p (thunk_number filling p id)
+block_address filling starts p id = address_of_owner filling starts p (thunk_number filling p id)
 
 -- ---- ends
 

@@ -73,10 +73,10 @@ if_dynamic link entries = if is_loaded_dynamically link.options.output then entr
 abbrev pub other_files : LinkInput → List NumberedFile
 other_files link = filter (λ f. not (is_prelude f.file.kind)) (numbered_files link.groups)
 
--- the tables by the sections whose edges are told, as far as these files bring entries for symbols, without headers: in got and plt what
--- each symbol of all files with a resolution asks for; what the tables of symbols have themselves, and an entry for each copied symbol, file
--- by file, and their names; the dynamic symbols of the files, behind what the dynamic tables have themselves by its bytes, and what all
--- files export, and their names
+-- the tables, without headers, as far as some files bring entries for symbols, by the sections whose edges are told: in got and plt what
+-- each symbol with a resolution asks for, in all files; in the symbol tables and their names what these files bring; in the dynamic ones,
+-- where a dynamic linker loads the output, first their own entries, as given for so many bytes, then the dynamic symbols of these files,
+-- then what all files export
 abbrev pub tables_by : TableSizes → LinkInput → Live → List Bool → List NumberedFile → (ℕ → List TableEntry) → TableLists
 tables_by sizes link live told files own = record {
   got = flat_map (got_entries sizes.allocation link live) (numbered_files link.groups);
@@ -99,9 +99,9 @@ tables_by sizes link live told files own = record {
 abbrev pub first_tables : TableSizes → LinkInput → Live → TableLists
 first_tables sizes link live = tables_by sizes link live [] (other_files link) (λ bytes. [])
 
--- the whole tables, by the sections whose edges are told, those that are emitted and the active segments: by all files, each dynamic table
--- behind an entry of its own; with the file's header, one for each active segment, and one for each emitted section and each singleton, and
--- the names of these
+-- the whole tables, by the sections whose edges are told, those that are emitted and the active segments: by all files, where each dynamic
+-- table begins with an entry of its own; with the file's header, one for each active segment, and one for each emitted section and each
+-- singleton, and the names of these
 abbrev pub whole_tables : TableSizes → LinkInput → Live → List Bool → List Bool → List ℕ → TableLists
 whole_tables sizes link live told emitted active =
     record (tables_by sizes link live told (numbered_files link.groups) (λ bytes. first_entry bytes ∷ [])) {
