@@ -12,13 +12,13 @@ use Rattle.lk_link.specs.declared.plan.OrderEvent.TheVariants.{SegmentStart, Seg
 use Rattle.lk_link.specs.declared.plan.Plan.{Plan}
 use Rattle.lk_link.specs.Marks.{is_marked}
 use Rattle.lk_link.specs.Rules.{is_section, is_start, is_end}
-use Rattle.lk_check.specs.FirstAnswer.{unless}
+use Rattle.lk_check.specs.FirstAnswer.{where_not}
 use Rattle.lk_check.specs.FirstBadEvent.{is_good_event, all_below, is_complete}
 use Rattle.lk_check.specs.Marks.{AreMarked, AreMarks, Marks}
 
 -- the number of an event of the plan, if it may not stand behind those before it
 abbrev pub bad_event : Bool → Plan → ℕ × OrderEvent → Option ℕ
-bad_event script plan e = unless (is_good_event script plan (take e.0 plan.events) e.1) e.0
+bad_event script plan e = where_not (is_good_event script plan (take e.0 plan.events) e.1) e.0
 
 -- ---- one more event
 

@@ -12,7 +12,7 @@ use Rattle.lk_link.specs.Symbols.{all_files}
 use Rattle.lk_link.proofs.Elements.{flat_map_at, map_at, numbered_at}
 use Rattle.lk_link.proofs.InputLemmas.{files_from_are}
 use Rattle.lk_link.proofs.Places.{all_where_none}
-use Rattle.lk_check.specs.FirstBadFile.{first_in_file, first_in_files}
+use Rattle.lk_check.specs.FirstBadFile.{first_bad_in_file, first_bad_in_files}
 use Rattle.lk_check.proofs.First.{found_of}
 use Rattle.lk_check.proofs.NoAnswer.{no_map, none_from, none_of, none_where_all}
 
@@ -64,9 +64,9 @@ place_within p [] k h = absurd (cc)
 place_within p (x ∷ xs) k h = (position-Some p (x ∷ xs) k x h).0
 
 -- an index that was found among a file's symbols is there
-pub found_there : (good : InputFile → InputSymbol → Bool) (groups : List (List InputFile)) (p : FileId × ℕ) → first_in_files (λ f. f.symbols) good groups ≡ Some p → IsSomeAnd (file_in groups p.0) (λ f. p.1 < length f.symbols)
+pub found_there : (good : InputFile → InputSymbol → Bool) (groups : List (List InputFile)) (p : FileId × ℕ) → first_bad_in_files (λ f. f.symbols) good groups ≡ Some p → IsSomeAnd (file_in groups p.0) (λ f. p.1 < length f.symbols)
 found_there good groups p h =
-    let by = found_of (first_in_file (λ f. f.symbols) good) (numbered_files groups) p h in
+    let by = found_of (first_bad_in_file (λ f. f.symbols) good) (numbered_files groups) p h in
     let file = by.1.file in
     let bad : InputSymbol → Bool = λ s. not (good file s) in
     let at = place_of by.1.id (position bad file.symbols) p by.3 in
@@ -77,12 +77,12 @@ found_there good groups p h =
 -- ---- none bad in any file
 
 -- where all that each file has is good, none is found that isn't
-pub none_in_files : {X : Type 0} (list : InputFile → List X) (good : InputFile → X → Bool) (groups : List (List InputFile)) → ((k : ℕ) (x : NumberedFile) → slice_get (numbered_files groups) k ≡ Some x → list_all (good x.file) (list x.file) ≡ true) → first_in_files list good groups ≡ None
-none_in_files list good groups h = none_from (first_in_file list good) (numbered_files groups) (λ k x at_k.
+pub none_in_files : {X : Type 0} (list : InputFile → List X) (good : InputFile → X → Bool) (groups : List (List InputFile)) → ((k : ℕ) (x : NumberedFile) → slice_get (numbered_files groups) k ≡ Some x → list_all (good x.file) (list x.file) ≡ true) → first_bad_in_files list good groups ≡ None
+none_in_files list good groups h = none_from (first_bad_in_file list good) (numbered_files groups) (λ k x at_k.
     ap (option_map (λ i. (x.id, i))) (none_where_all (good x.file) (list x.file) (h k x at_k)))
 
 -- and the other way round
-pub all_in_files : {X : Type 0} (list : InputFile → List X) (good : InputFile → X → Bool) (groups : List (List InputFile)) → first_in_files list good groups ≡ None → (k : ℕ) (x : NumberedFile) → slice_get (numbered_files groups) k ≡ Some x → list_all (good x.file) (list x.file) ≡ true
+pub all_in_files : {X : Type 0} (list : InputFile → List X) (good : InputFile → X → Bool) (groups : List (List InputFile)) → first_bad_in_files list good groups ≡ None → (k : ℕ) (x : NumberedFile) → slice_get (numbered_files groups) k ≡ Some x → list_all (good x.file) (list x.file) ≡ true
 all_in_files list good groups h k x at_k =
     all_where_none (good x.file) (list x.file)
-    (no_map (λ i. (x.id, i)) (position (λ y. not (good x.file y)) (list x.file)) (none_of (first_in_file list good) (numbered_files groups) k x h at_k))
+    (no_map (λ i. (x.id, i)) (position (λ y. not (good x.file y)) (list x.file)) (none_of (first_bad_in_file list good) (numbered_files groups) k x h at_k))

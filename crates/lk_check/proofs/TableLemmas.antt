@@ -6,12 +6,12 @@ use Rattle.lk_link.specs.declared.plan.Plan.{Plan}
 use Rattle.lk_link.specs.PartFieldRules.{is_good_table}
 use Rattle.lk_link.specs.PartRules.{is_part, table_parts}
 use Rattle.lk_link.specs.Parts.{all_parts}
-use Rattle.lk_check.specs.FirstAnswer.{first_of, unless}
+use Rattle.lk_check.specs.FirstAnswer.{first_of, where_not}
 use Rattle.lk_check.proofs.First.{numbered_here, numbered_on, numbered_end}
 
 -- the place of a table part, if it isn't good
 abbrev pub bad_table : Plan → ℕ × Option ℕ → Option ℕ
-bad_table plan q = unless (is_good_table plan q) q.0
+bad_table plan q = where_not (is_good_table plan q) q.0
 
 -- a table part, if it is named, is one of the plan's and none of those before it
 abbrev pub is_new : Plan → List (Option ℕ) → Option ℕ → Bool

@@ -35,7 +35,7 @@ use Rattle.lk_link.specs.WellFormed.{IsLedByPrelude, IsWellFormed}
 use Rattle.lk_link.proofs.InputLemmas.{file_stands}
 use Rattle.lk_check.specs.FirstAnswer.{first_bad, first_of}
 use Rattle.lk_check.specs.FirstBadEvent.{first_bad_event}
-use Rattle.lk_check.specs.FirstBadFile.{first_bad_file, first_bad_prelude, first_in_files, is_other_prelude}
+use Rattle.lk_check.specs.FirstBadFile.{first_file_where, first_bad_prelude, first_bad_in_files, is_other_prelude}
 use Rattle.lk_check.specs.FirstBadPartField.{first_bad_part_field}
 use Rattle.lk_check.specs.FirstExcess.{all_limits, excess, first_excess, first_exceeded}
 use Rattle.lk_check.specs.FirstFault.{all_rules, first_fault, first_place, input_place, rule_fault, second_tls, symbol_place, WellFormedExactlyUnfaulted}
@@ -142,7 +142,7 @@ is_first id f none prelude =
 
 led : (groups : List (List InputFile)) → first_bad_prelude groups ≡ None → IsLedByPrelude groups
 led groups h =
-    let begun = holds_if (begins_with_prelude groups) (first_bad_file is_other_prelude groups) (place.File (record { group = 0; file = 0 })) h in
+    let begun = holds_if (begins_with_prelude groups) (first_file_where is_other_prelude groups) (place.File (record { group = 0; file = 0 })) h in
     record {
       first = begun.0;
       only = λ id f at_id prelude.
@@ -160,7 +160,7 @@ no_other groups h x at_id false e = ap (λ b. b && not (x.id.group == 0 && x.id.
 
 unled : (groups : List (List InputFile)) → IsLedByPrelude groups → first_bad_prelude groups ≡ None
 unled groups h =
-    ap (λ b. cond b (first_bad_file is_other_prelude groups) (Some (place.File (record { group = 0; file = 0 })))) h.first
+    ap (λ b. cond b (first_file_where is_other_prelude groups) (Some (place.File (record { group = 0; file = 0 })))) h.first
     ∙ ap (option_map (λ (f : NumberedFile). place.File f.id)) (find_none is_other_prelude (numbered_files groups) (λ k x at_k. no_other groups h x (numbered_there groups k x at_k) (is_prelude x.file.kind) refl))
 
 -- ---- symbols
@@ -171,14 +171,14 @@ good_pair link p = is_good_symbol link p.0 p.1
 abbrev pairs_of : InputFile → List (InputFile × InputSymbol)
 pairs_of f = map (λ s. (f, s)) f.symbols
 
-symbols_good : (link : LinkInput) → first_in_files (λ f. f.symbols) (is_good_symbol link) link.groups ≡ None → list_all (good_pair link) (file_symbols (all_files link.groups)) ≡ true
+symbols_good : (link : LinkInput) → first_bad_in_files (λ f. f.symbols) (is_good_symbol link) link.groups ≡ None → list_all (good_pair link) (file_symbols (all_files link.groups)) ≡ true
 symbols_good link h =
     all_of_files (good_pair link) pairs_of link.groups
     ∙ all_from (λ x. list_all (good_pair link) (pairs_of x.file)) (numbered_files link.groups) (λ k x at_k.
     list_all-map (good_pair link) (λ s. (x.file, s)) x.file.symbols
     ∙ all_in_files (λ f. f.symbols) (is_good_symbol link) link.groups h k x at_k)
 
-no_bad_symbol : (link : LinkInput) → list_all (good_pair link) (file_symbols (all_files link.groups)) ≡ true → first_in_files (λ f. f.symbols) (is_good_symbol link) link.groups ≡ None
+no_bad_symbol : (link : LinkInput) → list_all (good_pair link) (file_symbols (all_files link.groups)) ≡ true → first_bad_in_files (λ f. f.symbols) (is_good_symbol link) link.groups ≡ None
 no_bad_symbol link h =
     none_in_files (λ f. f.symbols) (is_good_symbol link) link.groups (λ k x at_k.
     sym (list_all-map (good_pair link) (λ s. (x.file, s)) x.file.symbols)
@@ -230,11 +230,11 @@ unfaulted link h =
       locations = scripted (has_script link.groups) plan events;
       expressions = expressions_good link (none 7 rule.Expressions refl);
       prelude = led link.groups (none 8 rule.Prelude refl);
-      symbols = symbols_good link (no_map (symbol_place link) (first_in_files (λ f. f.symbols) (is_good_symbol link) link.groups) (none 9 rule.Symbols refl));
-      inputs = files_good (λ f. f.sections) (λ f. is_good_input plan (length f.symbols)) link.groups (no_map input_place (first_in_files (λ f. f.sections) (λ f. is_good_input plan (length f.symbols)) link.groups) (none 10 rule.InputSections refl));
-      tables = files_good (λ f. f.sections) (λ f. has_tables plan.named) link.groups (no_map input_place (first_in_files (λ f. f.sections) (λ f. has_tables plan.named) link.groups) (none 11 rule.Tables refl));
+      symbols = symbols_good link (no_map (symbol_place link) (first_bad_in_files (λ f. f.symbols) (is_good_symbol link) link.groups) (none 9 rule.Symbols refl));
+      inputs = files_good (λ f. f.sections) (λ f. is_good_input plan (length f.symbols)) link.groups (no_map input_place (first_bad_in_files (λ f. f.sections) (λ f. is_good_input plan (length f.symbols)) link.groups) (none 10 rule.InputSections refl));
+      tables = files_good (λ f. f.sections) (λ f. has_tables plan.named) link.groups (no_map input_place (first_bad_in_files (λ f. f.sections) (λ f. has_tables plan.named) link.groups) (none 11 rule.Tables refl));
       candidates = candidates_good link (none 12 rule.Candidates refl);
-      given = files_good (λ f. f.sections) (λ f. has_whole_data) link.groups (no_map input_place (first_in_files (λ f. f.sections) (λ f. has_whole_data) link.groups) (none 13 rule.Data refl));
+      given = files_good (λ f. f.sections) (λ f. has_whole_data) link.groups (no_map input_place (first_bad_in_files (λ f. f.sections) (λ f. has_whole_data) link.groups) (none 13 rule.Data refl));
     }
 
 -- a well-formed link has no fault

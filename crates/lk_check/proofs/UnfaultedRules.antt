@@ -17,9 +17,9 @@ use Rattle.lk_link.specs.PartFieldRules.{is_good_table, has_good_comment, has_go
 use Rattle.lk_link.specs.PartRules.{table_parts}
 use Rattle.lk_link.specs.Symbols.{all_symbols}
 use Rattle.lk_link.proofs.Places.{all_at, all_from, all_where_none, none_found}
-use Rattle.lk_check.specs.FirstAnswer.{first_bad, unless}
-use Rattle.lk_check.specs.FirstBadExpression.{first_bad_expression, first_bad_redirect}
-use Rattle.lk_check.specs.FirstBadFile.{first_in_files}
+use Rattle.lk_check.specs.FirstAnswer.{first_bad, where_not}
+use Rattle.lk_check.specs.FirstBadExpression.{first_bad_plan_expression, first_bad_redirect}
+use Rattle.lk_check.specs.FirstBadFile.{first_bad_in_files}
 use Rattle.lk_check.specs.FirstBadPartField.{first_bad_table, first_bad_part_field}
 use Rattle.lk_check.specs.FirstFault.{first_place, symbol_place}
 use Rattle.lk_check.proofs.NoAnswer.{no_map, passes_if, none_first, both_none, find_none, none_where_all, none_of, none_from}
@@ -75,8 +75,8 @@ expressions_good link h =
     let move : Option Place = option_map place.Event (first_bad (has_good_move link) plan.events) in
     let address : Option Place = option_map place.Section (first_bad (has_good_address link) plan.sections) in
     let region : Option Place = option_map place.Region (first_bad (is_good_region link) plan.regions) in
-    let base : Option Place = unless (is_good_expression link plan.base) place.Plan in
-    let both = none_first (first_bad_expression link) redirect h in
+    let base : Option Place = where_not (is_good_expression link plan.base) place.Plan in
+    let both = none_first (first_bad_plan_expression link) redirect h in
     let bases = none_first base (first_some region (first_some address move)) both.0 in
     let regions = none_first region (first_some address move) bases.1 in
     let others = none_first address move regions.1 in
@@ -96,8 +96,8 @@ no_bad_expression link h =
     let move : Option Place = option_map place.Event (first_bad (has_good_move link) plan.events) in
     let address : Option Place = option_map place.Section (first_bad (has_good_address link) plan.sections) in
     let region : Option Place = option_map place.Region (first_bad (is_good_region link) plan.regions) in
-    let base : Option Place = unless (is_good_expression link plan.base) place.Plan in
-    both_none (first_bad_expression link) redirect
+    let base : Option Place = where_not (is_good_expression link plan.base) place.Plan in
+    both_none (first_bad_plan_expression link) redirect
     (both_none base (first_some region (first_some address move)) (ap (λ b. cond b None (Some place.Plan)) h.base)
     (both_none region (first_some address move) (ap (option_map place.Region) (none_where_all (is_good_region link) plan.regions h.regions))
     (both_none address move (ap (option_map place.Section) (none_where_all (has_good_address link) plan.sections h.addresses))
@@ -107,13 +107,13 @@ no_bad_expression link h =
 -- ---- what files hold
 
 -- what all files of all groups have is good, where none is found that isn't
-pub files_good : {X : Type 0} (list : InputFile → List X) (good : InputFile → X → Bool) (groups : List (List InputFile)) → first_in_files list good groups ≡ None → list_all (λ files. list_all (λ f. list_all (good f) (list f)) files) groups ≡ true
+pub files_good : {X : Type 0} (list : InputFile → List X) (good : InputFile → X → Bool) (groups : List (List InputFile)) → first_bad_in_files list good groups ≡ None → list_all (λ files. list_all (λ f. list_all (good f) (list f)) files) groups ≡ true
 files_good list good groups h =
     all_by_groups (λ f. list_all (good f) (list f)) groups
     ∙ all_from (λ x. list_all (good x.file) (list x.file)) (numbered_files groups) (all_in_files list good groups h)
 
 -- and the other way round
-pub none_bad_in : {X : Type 0} (list : InputFile → List X) (good : InputFile → X → Bool) (groups : List (List InputFile)) → list_all (λ files. list_all (λ f. list_all (good f) (list f)) files) groups ≡ true → first_in_files list good groups ≡ None
+pub none_bad_in : {X : Type 0} (list : InputFile → List X) (good : InputFile → X → Bool) (groups : List (List InputFile)) → list_all (λ files. list_all (λ f. list_all (good f) (list f)) files) groups ≡ true → first_bad_in_files list good groups ≡ None
 none_bad_in list good groups h = none_in_files list good groups (λ k x at_k.
     all_at (λ y. list_all (good y.file) (list y.file)) (numbered_files groups) k x (sym (all_by_groups (λ f. list_all (good f) (list f)) groups) ∙ h) at_k)
 

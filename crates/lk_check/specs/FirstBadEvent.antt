@@ -6,7 +6,7 @@ use Rattle.lk_link.specs.declared.plan.OrderEvent.{OrderEvent}
 use Rattle.lk_link.specs.declared.plan.OrderEvent.TheVariants.{SegmentStart, SegmentEnd, Section, SetLocation, SetLocationRelative}
 use Rattle.lk_link.specs.Rules.{is_section, is_start, is_end}
 use Rattle.lk_link.specs.Files.{first_some}
-use Rattle.lk_check.specs.FirstAnswer.{first_bad_at, unless}
+use Rattle.lk_check.specs.FirstAnswer.{first_bad_at, where_not}
 
 -- whether an event may stand behind those before it: what it names is there, nothing is named twice, a segment closes
 -- after it opened, and the location counter moves only where a script is
@@ -32,4 +32,4 @@ is_complete plan = all_below (λ s. list_any (is_section s) plan.events) (length
 -- where the rule on events is broken first; what is missing is missing at the end
 abbrev pub first_bad_event : Bool → Plan → Option ℕ
 first_bad_event script plan =
-    first_some (first_bad_at (λ e. is_good_event script plan (take e.0 plan.events) e.1) plan.events) (unless (is_complete plan) (length plan.events))
+    first_some (first_bad_at (λ e. is_good_event script plan (take e.0 plan.events) e.1) plan.events) (where_not (is_complete plan) (length plan.events))

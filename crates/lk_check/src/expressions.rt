@@ -8,7 +8,7 @@ ghost use Rattle.lk_link.specs.Files.{AreNumbered};
 ghost use Rattle.lk_link.specs.Symbols.{all_files, symbol_count};
 ghost use Rattle.lk_check.specs.ByGroups.{has_good_files};
 ghost use Rattle.lk_check.specs.FirstAnswer.{first_bad};
-ghost use Rattle.lk_check.specs.FirstBadExpression.{first_bad_expression, first_bad_redirect};
+ghost use Rattle.lk_check.specs.FirstBadExpression.{first_bad_plan_expression, first_bad_redirect};
 ghost use Rattle.lk_check.specs.FirstFault.{first_place, symbol_place};
 
 use crate::depths::is_shallow;
@@ -31,7 +31,7 @@ pub fn first_place(link: &LinkInput, good_files: bool) -> Option<Place>
     requires good { good_files ≡ true → has_good_files link.now ≡ true }
     ensures { result ≡ first_place link.now rule.Expressions }
 {
-    match first_bad_expression(link) {
+    match first_bad_plan_expression(link) {
         Some(place) => Some(place),
         None => redirect_place(link, good_files),
     }
@@ -39,8 +39,8 @@ pub fn first_place(link: &LinkInput, good_files: bool) -> Option<Place>
 
 /// The first expression of the plan that isn't good: that of the base, those of regions, of the load addresses of sections, and of events.
 #[tactic(auto, using(crate::proofs::First::firsts))]
-fn first_bad_expression(link: &LinkInput) -> Option<Place>
-    ensures { result ≡ first_bad_expression link.now }
+fn first_bad_plan_expression(link: &LinkInput) -> Option<Place>
+    ensures { result ≡ first_bad_plan_expression link.now }
 {
     if !is_good_expression(link, &link.plan.base) {
         return Some(Place::Plan);

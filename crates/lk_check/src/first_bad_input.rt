@@ -4,7 +4,7 @@ ghost use Rattle.std.specs.Prelude.{◌≡◌, not, length, position};
 ghost use Rattle.lk_link.specs.declared.fault.Rule.TheVariants as rule;
 ghost use Rattle.lk_link.specs.Files.{AreNumbered};
 ghost use Rattle.lk_link.specs.InputRules.{is_good_input};
-ghost use Rattle.lk_check.specs.FirstBadFile.{first_in_files};
+ghost use Rattle.lk_check.specs.FirstBadFile.{first_bad_in_files};
 ghost use Rattle.lk_check.specs.FirstFault.{first_place};
 
 use crate::good_inputs::is_good_input;
@@ -28,7 +28,7 @@ pub fn first_place(link: &LinkInput) -> Option<Place>
 #[tactic(auto, using(crate::proofs::First::walks))]
 fn first_bad_input(link: &LinkInput) -> Option<(FileId, usize)>
     requires { AreNumbered link.now.groups }
-    ensures { result ≡ first_in_files (λ f. f.sections) (λ f. is_good_input link.now.plan (length f.symbols)) link.now.groups }
+    ensures { result ≡ first_bad_in_files (λ f. f.sections) (λ f. is_good_input link.now.plan (length f.symbols)) link.now.groups }
 {
     for at in link.groups.files() {
         if let Some(section) = bad_section(&link.plan, at.file) {

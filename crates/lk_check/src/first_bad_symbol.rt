@@ -8,7 +8,7 @@ ghost use Rattle.lk_link.specs.declared.fault.Rule.TheVariants as rule;
 ghost use Rattle.lk_link.specs.Files.{file_in, AreNumbered};
 ghost use Rattle.lk_link.specs.SymbolRules.{is_good_symbol, location_count};
 ghost use Rattle.lk_link.specs.Symbols.{all_files, first_symbol, symbol_count};
-ghost use Rattle.lk_check.specs.FirstBadFile.{first_in_files};
+ghost use Rattle.lk_check.specs.FirstBadFile.{first_bad_in_files};
 ghost use Rattle.lk_check.specs.FirstFault.{first_place};
 
 use crate::events::location_count;
@@ -37,7 +37,7 @@ pub fn first_place(link: &LinkInput) -> Option<Place>
 #[tactic(auto, using(crate::proofs::First::walks))]
 fn first_bad_symbol(link: &LinkInput) -> Option<(FileId, usize)>
     requires { AreNumbered link.now.groups }
-    ensures { result ≡ first_in_files (λ f. f.symbols) (is_good_symbol link.now) link.now.groups }
+    ensures { result ≡ first_bad_in_files (λ f. f.symbols) (is_good_symbol link.now) link.now.groups }
 {
     let locations = location_count(&link.plan);
     for at in link.groups.files() {

@@ -4,7 +4,7 @@ ghost use Rattle.std.specs.Prelude.{◌≡◌};
 ghost use Rattle.lk_link.specs.declared.fault.Rule.TheVariants as rule;
 ghost use Rattle.lk_link.specs.Files.{AreNumbered};
 ghost use Rattle.lk_link.specs.Rules.{begins_with_prelude};
-ghost use Rattle.lk_check.specs.FirstBadFile.{first_bad_file, is_other_prelude};
+ghost use Rattle.lk_check.specs.FirstBadFile.{first_file_where, is_other_prelude};
 ghost use Rattle.lk_check.specs.FirstFault.{first_place};
 
 use lk_link::fault::Place;
@@ -14,7 +14,7 @@ use lk_link::ids::FileId;
 use lk_link::link::LinkInput;
 use lk_link::list::List;
 
-/// The first file that is a prelude, and not the first file of the first group; that one, where it is no prelude.
+/// The first file of the first group, where it is no prelude or isn't there; else the first other file that is one.
 #[tactic(auto, unfolding(crate::specs::FirstFault::first_place))]
 pub fn first_place(link: &LinkInput) -> Option<Place>
     requires { AreNumbered link.now.groups }
@@ -30,7 +30,7 @@ pub fn first_place(link: &LinkInput) -> Option<Place>
 /// The first file that is a prelude, and not the first file of the first group.
 fn other_prelude(groups: &InputGroups) -> Option<Place>
     requires { AreNumbered groups.now }
-    ensures { result ≡ first_bad_file is_other_prelude groups.now }
+    ensures { result ≡ first_file_where is_other_prelude groups.now }
 {
     for at in groups.files() {
         if is_other_prelude(at.id, at.file) {

@@ -4,7 +4,7 @@ ghost use Rattle.std.specs.Prelude.{◌≡◌, not, position};
 ghost use Rattle.lk_link.specs.declared.fault.Rule.TheVariants as rule;
 ghost use Rattle.lk_link.specs.DataRules.{has_whole_data};
 ghost use Rattle.lk_link.specs.Files.{AreNumbered};
-ghost use Rattle.lk_check.specs.FirstBadFile.{first_in_files};
+ghost use Rattle.lk_check.specs.FirstBadFile.{first_bad_in_files};
 ghost use Rattle.lk_check.specs.FirstFault.{first_place};
 
 use lk_link::fault::Place;
@@ -27,7 +27,7 @@ pub fn first_place(link: &LinkInput) -> Option<Place>
 #[tactic(auto, using(crate::proofs::First::walks))]
 fn first_bad_data(link: &LinkInput) -> Option<(FileId, usize)>
     requires { AreNumbered link.now.groups }
-    ensures { result ≡ first_in_files (λ f. f.sections) (λ f. has_whole_data) link.now.groups }
+    ensures { result ≡ first_bad_in_files (λ f. f.sections) (λ f. has_whole_data) link.now.groups }
 {
     for at in link.groups.files() {
         if let Some(section) = bad_section(at.file) {

@@ -4,7 +4,7 @@ ghost use Rattle.std.specs.Prelude.{◌≡◌, not, position};
 ghost use Rattle.lk_link.specs.declared.fault.Rule.TheVariants as rule;
 ghost use Rattle.lk_link.specs.Files.{AreNumbered};
 ghost use Rattle.lk_link.specs.TableRules.{has_tables, has_tables_for};
-ghost use Rattle.lk_check.specs.FirstBadFile.{first_in_files};
+ghost use Rattle.lk_check.specs.FirstBadFile.{first_bad_in_files};
 ghost use Rattle.lk_check.specs.FirstFault.{first_place};
 
 use lk_link::fault::Place;
@@ -29,7 +29,7 @@ pub fn first_place(link: &LinkInput) -> Option<Place>
 #[tactic(auto, using(crate::proofs::First::walks))]
 fn first_bad_tables(link: &LinkInput) -> Option<(FileId, usize)>
     requires { AreNumbered link.now.groups }
-    ensures { result ≡ first_in_files (λ f. f.sections) (λ f. has_tables link.now.plan.named) link.now.groups }
+    ensures { result ≡ first_bad_in_files (λ f. f.sections) (λ f. has_tables link.now.plan.named) link.now.groups }
 {
     for at in link.groups.files() {
         if let Some(section) = bad_section(&link.plan.named, at.file) {

@@ -126,7 +126,7 @@ IsDefined machine link answer =
     -- all references that can't be met
     (Unless (references_refusal (reference_faults link)) answer
     ((live : Live) × AreLive link live
-    -- of what is live the first part past 64 bits
+    -- of what is live, the first part at which the sizes so far pass 2^64 - 1 together
     × Unless (option_map size_error (size_refusal (filling_for machine link live))) answer
     ((stage : Stage) × IsRelaxed (relaxing_for machine link live) stage × IsMadeAnswer (made_of machine link live stage) answer))))
 

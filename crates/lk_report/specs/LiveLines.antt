@@ -26,7 +26,7 @@ file_lines link layout f = flat_map (λ x. input_text link layout (input_number 
 abbrev pub group_lines : LinkInput → LayoutRecord → ℕ → List ℕ
 group_lines link layout g = flat_map (file_lines link layout) (files_in link.groups g)
 
--- the same of an input section with its number, where it is one that is told; else nothing
+-- the line of an input section with its number, with this index in the output, where it is a singleton that is told; else nothing
 abbrev pub single_text : LinkInput → LayoutRecord → ℕ → ℕ × Input → List ℕ
 single_text link layout index q = if is_told_singleton link layout q then single_line index q.1 else []
 

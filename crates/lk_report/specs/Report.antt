@@ -182,16 +182,20 @@ abbrev pub report_texts : LinkInput → LayoutRecord → List (List ℕ)
 report_texts link layout =
     let starts = layout.merged_string_start_addresses in
     codes "layout\n"
+    -- all output sections, all parts, the active segments
     ∷ each (λ s _. laid_out_text layout s) 0 link.plan.sections
     ∷ each (λ s _. section_part_lines link.plan.sections layout.section_part_layouts s) 0 link.plan.sections
     ∷ each (λ _ segment. segment_line segment) 0 layout.segment_layouts
+    -- the live sections; the singletons, whose indexes follow those of the emitted sections
     ∷ flat_map live_line (told_live link layout)
-    -- the indexes of singletons follow those of the emitted sections
     ∷ each single_line (emitted_count layout) (told_singletons link layout)
+    -- all output sections into which something is merged, and then all distinct pieces, by number
     ∷ each (merged_text starts) 0 layout.merged_strings
     ∷ each (λ s inputs. piece_lines s (image_start starts s) (all_pieces inputs)) 0 layout.merged_strings
+    -- all blocks that files own, and then the thunks of all blocks, by number
     ∷ each block_text 0 layout.thunk_block_owners
     ∷ each (block_thunks layout) 0 layout.thunk_blocks
+    -- all symbols with a resolution, by number
     ∷ each symbol_text 0 layout.symbol_resolutions
     ∷ entry_line (resolved_entry layout)
     ∷ codes "end\n" ∷ []
