@@ -60,7 +60,8 @@ first_place link rule.Events = option_map place.Event (first_bad_event (has_scri
 first_place link rule.Expressions = first_some (first_bad_plan_expression link) (option_map (symbol_place link) (first_bad_redirect link))
 first_place link rule.Prelude = first_bad_prelude link.groups
 first_place link rule.Symbols = option_map (symbol_place link) (first_bad_in_files (λ f. f.symbols) (is_good_symbol link) link.groups)
-first_place link rule.InputSections = option_map input_place (first_bad_in_files (λ f. f.sections) (λ f. is_good_input link.plan (length f.symbols)) link.groups)
+first_place link rule.InputSections =
+    option_map input_place (first_bad_in_files (λ f. f.sections) (λ f. is_good_input link.plan (length f.symbols)) link.groups)
 first_place link rule.Tables = option_map input_place (first_bad_in_files (λ f. f.sections) (λ f. has_tables link.plan.named) link.groups)
 first_place link rule.Candidates = first_file_where (λ f. not (has_good_candidates link f.file)) link.groups
 first_place link rule.Data = option_map input_place (first_bad_in_files (λ f. f.sections) (λ f. has_whole_data) link.groups)

@@ -100,12 +100,13 @@ layout_of made =
 abbrev pub IsMadeAnswer : Made → Result LayoutRecord LayoutError → Type 0
 IsMadeAnswer made answer =
     let content = made_content made in
+    let sections = made_sections made in
     -- what its last placement can't carry out
     Unless (option_map place_error (refusal_of (made_relaxing made) made.stage)) answer
     -- a primary that its secondaries take past 64 bits
-    (Unless (option_map place_error (merge_refusal made.link.plan.sections (made_sections made))) answer
+    (Unless (option_map place_error (merge_refusal made.link.plan.sections sections)) answer
     -- a section outside the segments, or thread-local data that end past 64 bits
-    (Unless (option_map place_error (segments_refusal FromSections made.link (made_sections made) (is_emitted content) (active_segments content))) answer
+    (Unless (option_map place_error (segments_refusal FromSections made.link sections (is_emitted content) (active_segments content))) answer
     -- the first symbol or relocation that chooses an offset outside the data of a merged section
     (Unless (option_map offset_error (slice_get (merge_offsets made.link made.live) 0)) answer
     -- a redirect whose expression has no value

@@ -96,7 +96,8 @@ fn write_pieces(
     merged: &[MergedStringsSection<'_>],
     starts: &MergedStringStartAddresses,
 ) -> Result<(), AllocError>
-    ensures { IfOk result (λ _. string_bytes text.new ≡ string_bytes text.old ++ each (λ s inputs. piece_lines s (image_start starts.now s) (all_pieces inputs)) 0 merged.now) }
+    ensures { IfOk result (λ _. string_bytes text.new ≡ string_bytes text.old
+        ++ each (λ s inputs. piece_lines s (image_start starts.now s) (all_pieces inputs)) 0 merged.now) }
 {
     for (number, section) in merged.iter().enumerate() {
         write_section_pieces(text, number, section, starts.image_start(number))?;

@@ -250,7 +250,8 @@ fn write_parts(
     sections: &PlanSections,
     parts: &[OutputRecordLayout],
 ) -> Result<(), AllocError>
-    ensures { IfOk result (λ _. string_bytes text.new ≡ string_bytes text.old ++ each (λ s _. section_part_lines sections.now parts.now s) 0 sections.now) }
+    ensures { IfOk result (λ _. string_bytes text.new ≡ string_bytes text.old
+        ++ each (λ s _. section_part_lines sections.now parts.now s) 0 sections.now) }
 {
     for (number, _) in sections.as_slice().iter().enumerate() {
         write_section_parts(text, sections, parts, number)?;

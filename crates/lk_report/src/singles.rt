@@ -24,7 +24,8 @@ pub(crate) fn write_singles(
     layout: &Layout<'_>,
 ) -> Result<(), AllocError>
     requires good { IsWellFormed link.now }
-    ensures { IfOk result (λ _. string_bytes text.new ≡ string_bytes text.old ++ each single_line (emitted_count layout.now) (told_singletons link.now layout.now)) }
+    ensures { IfOk result (λ _. string_bytes text.new ≡ string_bytes text.old
+        ++ each single_line (emitted_count layout.now) (told_singletons link.now layout.now)) }
 {
     if !link.options.output.is_partial() {
         return Ok(());

@@ -18,7 +18,8 @@ pub(crate) fn thunks_room(layout: &Layout<'_>) -> usize {
 
 /// The lines of the blocks that files own, and then those of all thunks.
 pub(crate) fn write_thunks(text: &mut String, layout: &Layout<'_>) -> Result<(), AllocError>
-    ensures { IfOk result (λ _. string_bytes text.new ≡ string_bytes text.old ++ (each block_text 0 layout.now.thunk_block_owners ++ each (block_thunks layout.now) 0 layout.now.thunk_blocks)) }
+    ensures { IfOk result (λ _. string_bytes text.new ≡ string_bytes text.old
+        ++ (each block_text 0 layout.now.thunk_block_owners ++ each (block_thunks layout.now) 0 layout.now.thunk_blocks)) }
 {
     write_blocks(text, layout.thunk_block_owners())?;
     write_all(text, layout, layout.thunk_blocks())
