@@ -33,7 +33,8 @@ use lk_place::{
 };
 use lk_relax::laws::{nothing_is_past, relaxed_is_shrunk, relaxed_stands, shrunk_can_be_scanned};
 use lk_relax::{
-    check_sites, compute_input_section_positions, is_nothing_deleted, place_first, relax_owners,
+    Relaxation, Standing, check_sites, compute_input_section_positions, is_nothing_deleted,
+    place_first, relax_owners,
 };
 use lk_resolution_list::SymbolResolutions;
 use lk_resolutions::{Addresses, PlacedParts, addresses_of, check_offsets};
@@ -240,15 +241,13 @@ impl<'a, 'data, P: Platform, A: Arch> Finds<'data> for Job<'a, 'data, P, A> {
         sized: &SizedLink<'data>,
         headers: u64,
     ) -> Result<Placed, LayoutError> {
-        let live = &sized.kept.live;
-        let first = place_first(
-            alloc,
-            self.link,
-            live,
-            &sized.owners,
+        let by = Relaxation {
+            link: self.link,
+            live: &sized.kept.live,
+            platform: self.platform,
             headers,
-            self.platform,
-        )?;
+        };
+        let first = place_first(alloc, &by, &sized.owners)?;
         Ok(first)
     }
 
@@ -257,16 +256,20 @@ impl<'a, 'data, P: Platform, A: Arch> Finds<'data> for Job<'a, 'data, P, A> {
         alloc: Global,
         sized: SizedLink<'data>,
     ) -> Result<PlacedLink<'data>, LayoutError> {
-        let link = self.link;
-        let platform = self.platform;
-        let headers = header_bytes(link, platform, sized.owners.header());
+        let headers = header_bytes(self.link, self.platform, sized.owners.header());
         let first = self.first_placed(alloc, &sized, headers)?;
         let SizedLink {
             kept,
             owners,
             thunks,
         } = sized;
-        let relaxed = relax_owners(alloc, link, platform, &kept.live, owners, headers, first)?;
+        let by = Relaxation {
+            link: self.link,
+            live: &kept.live,
+            platform: self.platform,
+            headers,
+        };
+        let relaxed = relax_owners(alloc, &by, owners, first)?;
         Ok(PlacedLink {
             kept,
             thunks,
@@ -422,7 +425,14 @@ impl<'a, 'data, P: Platform, A: Arch> Finds<'data> for Job<'a, 'data, P, A> {
             alloc, link, live, owners, deltas,
         )?;
         let parts = placed.records.parts.as_slice();
-        check_sites(link, live, &sections, &symbols, parts, deltas)?;
+        check_sites(Standing {
+            link,
+            live,
+            sections: &sections,
+            symbols: &symbols,
+            parts,
+            deltas,
+        })?;
         Ok(())
     }
 

@@ -24,8 +24,8 @@ use lk_link::{FileId, LinkInput, PartId, PlanPart, Platform, Section, Small64, S
 use lk_live::{Live, traverse_alone};
 use lk_place::{PlaceError, Placed};
 use lk_relax::{
-    Relaxed, compute_input_section_positions, perform_iterative_relaxation, place_first,
-    relaxation_scan_pass,
+    Relaxation, Relaxed, Standing, compute_input_section_positions, perform_iterative_relaxation,
+    place_first, relaxation_scan_pass,
 };
 use lk_sizes::{PartOwners, SizeError, plain_owners};
 use lk_test_rows::add;
@@ -217,16 +217,15 @@ fn add_scanned(
     if !section.slot.is_regular() {
         return Ok(());
     }
-    for one in &relaxation_scan_pass(
-        alloc,
-        all.link,
-        all.live,
-        &[(file, index)],
-        all.sections,
-        all.symbols,
-        all.parts,
-        &[],
-    )? {
+    let before = Standing {
+        link: all.link,
+        live: all.live,
+        sections: all.sections,
+        symbols: all.symbols,
+        parts: all.parts,
+        deltas: &[],
+    };
+    for one in &relaxation_scan_pass(alloc, before, &[(file, index)])? {
         add_one_found(alloc, line, number, one)?;
     }
     Ok(())
@@ -330,7 +329,13 @@ fn add_passes<P: Platform>(
     requires fits { size_refusal (own_filling link.now (P.table_sizes platform.now) live.now [] []) ≡ None }
     requires first { ArePlacedFirst (relaxing (P.segment_start platform.now) 0 (own_filling link.now (P.table_sizes platform.now) live.now [] [])) first }
 {
-    match perform_iterative_relaxation(alloc, link, platform, live, &[], &[], 0, first) {
+    let by = Relaxation {
+        link,
+        live,
+        platform,
+        headers: 0,
+    };
+    match perform_iterative_relaxation(alloc, &by, &[], &[], first) {
         Ok(relaxed) => add_end(alloc, line, &relaxed),
         Err(PlaceError::NoMemory) => Err(AllocError),
         Err(error) => add(line, "refused", &error),
@@ -351,7 +356,13 @@ fn add_sized<P: Platform>(
     requires fits { size_refusal (own_filling link.now (P.table_sizes platform.now) live.now [] []) ≡ None }
     requires filled { AreFilled (own_filling link.now (P.table_sizes platform.now) live.now [] []) owners.now }
 {
-    match place_first(alloc, link, live, owners, 0, platform) {
+    let by = Relaxation {
+        link,
+        live,
+        platform,
+        headers: 0,
+    };
+    match place_first(alloc, &by, owners) {
         Ok(first) => {
             add_first(alloc, line, link, live, owners, first.parts.as_slice())?;
             add_passes(alloc, line, link, platform, live, first)

@@ -1,7 +1,6 @@
 -- Positions by marks and a table are those that are defined, and there is room behind them.
-use Rattle.std.proofs.Common.{◌≡◌, ℕ, zero, suc, ◌+◌, ◌<◌, ◌≤◌, ◌^◌, ◌&&◌, Bool, true, false, not, cond, List, [], ◌∷◌, ◌++◌, length, map, Option, Some, None, refl, sym, ap, ◌∙◌, arith}
+use Rattle.std.proofs.Common.{◌≡◌, ℕ, zero, suc, ◌+◌, ◌<◌, ◌&&◌, Bool, true, false, not, List, [], ◌∷◌, ◌++◌, length, map, Option, Some, None, refl, sym, ap, ◌∙◌, arith}
 use Rattle.std.specs.Prelude.{if◌then◌else◌, slice_get, slice_index}
-use Rattle.std.specs.Int.{next_multiple_of}
 use Rattle.std.specs.List.{enumerate_from, slice_index_or}
 use Rattle.std.proofs.lemmas.List.{length-map, map_push}
 use Rattle.std.proofs.lemmas.List.FromFn.{length-enumerate_from}
@@ -15,23 +14,19 @@ use Rattle.lk_link.specs.declared.walks.InputRef.{InputRef}
 use Rattle.lk_link.specs.Inputs.{Input, all_inputs, input_number}
 use Rattle.lk_link.specs.InputSlots.{is_merge, is_regular}
 use Rattle.lk_link.specs.Marks.{is_marked}
-use Rattle.lk_link.specs.Parts.{all_parts, part_at}
-use Rattle.lk_link.specs.Sizes.{capacity}
+use Rattle.lk_link.specs.Parts.{all_parts}
 use Rattle.lk_link.specs.Walks.{input_of}
 use Rattle.lk_link.specs.WellFormed.{IsWellFormed}
 use Rattle.lk_link.proofs.Elements.{map_in, numbered_at}
 use Rattle.lk_link.proofs.InputLemmas.{inputs_follow, numbered_get}
-use Rattle.lk_live.specs.Reach.{AreLive, live_inputs, marked}
+use Rattle.lk_live.specs.Reach.{AreLive, marked}
 use Rattle.lk_expressions.specs.Surroundings.{flat}
 use Rattle.lk_sizes.specs.Addresses.{section_addresses}
-use Rattle.lk_sizes.specs.Owners.{Filling, section_taker, size_of}
+use Rattle.lk_sizes.specs.Owners.{Filling, size_of}
 use Rattle.lk_sizes.specs.PartOwners.{EndsFit, live_address}
-use Rattle.lk_sizes.specs.Tables.{bytes_in}
-use Rattle.lk_sizes.proofs.Addressing.{live_among, section_behind}
 use Rattle.lk_sizes.proofs.LiveOnes.{live_goes}
 use Rattle.lk_sizes.proofs.Numbering.{numbered_push, table_at}
 use Rattle.lk_sizes.proofs.Placed.{ends_within}
-use Rattle.lk_sizes.proofs.Takers.{bytes_in-append, bytes_in_here}
 use Rattle.lk_deltas.specs.LinkDeletions.{Deletions, size_after, sizes_after}
 use Rattle.lk_relax.specs.Positions.{no_starts, section_position, section_positions}
 use Rattle.lk_relax.specs.PositionWords.{HaveRoom, section_position_in}

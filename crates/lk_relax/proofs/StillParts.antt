@@ -1,13 +1,10 @@
 -- Where capacities stay, parts keep their bytes.
-use Rattle.std.proofs.Common.{◌≡◌, ◌==◌, ◌≤◌, ◌<◌, ◌-◌, ◌++◌, ℕ, zero, suc, Bool, true, false, MatchBool, List, [], ◌∷◌, Some, map, sum_by, inl, inr, refl, sym, ap, subst, ◌∙◌, arith}
-use Rattle.std.specs.Prelude.{if◌then◌else◌, slice_get}
-use Rattle.std.specs.Int.{next_multiple_of}
+use Rattle.std.proofs.Common.{◌≡◌, ◌==◌, ◌≤◌, ◌-◌, ◌++◌, ℕ, zero, suc, Bool, true, false, MatchBool, List, [], ◌∷◌, Some, map, sum_by, inl, inr, refl, sym, ap, subst, ◌∙◌, arith}
+use Rattle.std.specs.Prelude.{slice_get}
 use Rattle.std.specs.List.{enumerate_from, flat_map}
-use Rattle.std.proofs.Math.Nat.{dvd-sub}
-use Rattle.std.proofs.lemmas.Bool.{cases_lt, eqb-true}
+use Rattle.std.proofs.lemmas.Bool.{eqb-true}
 use Rattle.std.proofs.lemmas.Bool.Decides.{eqb_tells}
 use Rattle.std.proofs.lemmas.List.Sums.{get_or-le-sum_by, sum_by-append}
-use Rattle.std.proofs.lemmas.Nat.Gcd.{le_of_dvd}
 use Rattle.std.proofs.lemmas.Option.{get_or_from_slice_get, slice_get_within}
 use Rattle.lk_link.specs.declared.link.LinkInput.{LinkInput}
 use Rattle.lk_link.specs.declared.plan.PlanPart.{PlanPart}
@@ -17,7 +14,6 @@ use Rattle.lk_link.specs.Sizes.{capacity}
 use Rattle.lk_link.specs.WellFormed.{IsWellFormed}
 use Rattle.lk_link.proofs.Elements.{map_in}
 use Rattle.lk_link.proofs.Powers.{alignment-pos}
-use Rattle.lk_link.proofs.Starts.{next_multiple_is_least}
 use Rattle.lk_live.specs.declared.live.Live.{Live}
 use Rattle.lk_sizes.specs.Owners.{EntryOwner, Filling, Owner, Taker, all_file_takers, common_taker, commons_of, content_owners, file_takers, leading_of, live_of, owner_bytes, owners_in, section_taker, size_in, sorted_takers, takers, thunk_takers}
 use Rattle.lk_sizes.specs.PartOwners.{part_size, part_sizes, tables_of}

@@ -1,4 +1,4 @@
--- What the code goes by: what a judge of one section holds. Contracts of private functions speak of these.
+-- What the code goes by: what a judge of one section holds, of which contracts of private functions speak, and how all stands.
 use Rattle.std.specs.Prelude.{◌≡◌, ℕ, ◌+◌, ◌-◌, ◌<◌, ◌^◌, if◌then◌else◌, List, [], Option, nat_le, option_and_then, slice_get}
 use Rattle.std.specs.Option.{option_copied}
 use Rattle.lk_link.specs.declared.link.LinkInput.{LinkInput}
@@ -11,7 +11,7 @@ use Rattle.lk_deltas.specs.declared.candidates.Outcome.{Outcome}
 use Rattle.lk_deltas.specs.declared.candidates.Outcome.TheVariants as outcome
 use Rattle.lk_deltas.specs.Deletions.{mapped_by}
 use Rattle.lk_relax.specs.declared.judge.SectionJudge.{SectionJudge}
-use Rattle.lk_relax.specs.declared.scan.Before.{Before}
+use Rattle.lk_relax.specs.declared.scan.Standing.{Standing}
 use Rattle.lk_relax.specs.Scan.{PassState, address_in, outcome_by, target}
 
 -- the address of a symbol by its number, by what is lent
@@ -39,12 +39,12 @@ pub record IsNumbered (j : SectionJudge) (c : RelaxCandidate) : Type 0 where
   pub own : symbol_at j.link.now.groups (j.first + c.symbol) ≡ slice_get j.own.now c.symbol
 
 -- how all stands, by what is lent
-abbrev pub standing_of : Before → PassState
-standing_of b = record {
-  link = b.link.now;
-  live = b.live.now;
-  sections = b.sections.now;
-  symbols = b.symbols.now;
-  parts = b.parts.now;
-  deletions = b.deltas.now;
+abbrev pub standing_of : Standing → PassState
+standing_of s = record {
+  link = s.link.now;
+  live = s.live.now;
+  sections = s.sections.now;
+  symbols = s.symbols.now;
+  parts = s.parts.now;
+  deletions = s.deltas.now;
 }

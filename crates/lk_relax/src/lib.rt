@@ -15,6 +15,8 @@ pub mod sites;
 pub use crate::deletions::sizes_after;
 pub use crate::placing::place_first;
 pub use crate::positions::compute_input_section_positions;
-pub use crate::relaxation::{Relaxed, RelaxedParts, perform_iterative_relaxation, relax_owners};
-pub use crate::scan::relaxation_scan_pass;
+pub use crate::relaxation::{
+    Relaxation, Relaxed, RelaxedParts, perform_iterative_relaxation, relax_owners,
+};
+pub use crate::scan::{Standing, relaxation_scan_pass};
 pub use crate::sites::{RelaxedPlace, check_sites, is_nothing_deleted};

@@ -19,7 +19,7 @@ ghost use Rattle.lk_relax.specs.Stages.{Relaxing, standing_at};
 
 use crate::deletions::sizes_after;
 use crate::laws;
-use crate::scan::{candidates_of, relaxation_scan_pass};
+use crate::scan::{Standing, candidates_of, relaxation_scan_pass};
 use lk_deltas::{RelaxDeltaMap, SectionRelaxDeltas};
 use lk_expressions::SymbolPositions;
 use lk_link::{FileId, InputSection, LinkInput, PartId, Section};
@@ -127,16 +127,15 @@ fn look(
     ensures { (by : Relaxing) (is : IsStage (for_link link.now live.now by) hand.now)
         → IfOk result (λ found. found.items ≡ map (scanned (standing_at (for_link link.now live.now by) (stage_in hand.now is))) hand.now.scan.items) }
 {
-    relaxation_scan_pass(
-        alloc,
+    let before = Standing {
         link,
         live,
-        &hand.scan,
-        &hand.sections,
-        &hand.symbols,
-        hand.placed.parts.as_slice(),
-        &hand.deltas,
-    )
+        sections: &hand.sections,
+        symbols: &hand.symbols,
+        parts: hand.placed.parts.as_slice(),
+        deltas: &hand.deltas,
+    };
+    relaxation_scan_pass(alloc, before, &hand.scan)
 }
 
 /// Deletes what more was found in sections of files.

@@ -12,6 +12,7 @@ ghost use Rattle.lk_relax.specs.RelaxedLaws.{nothing_deleted};
 ghost use Rattle.lk_relax.specs.Stages.{setting_after};
 
 use crate::positions::compute_input_section_positions;
+use crate::relaxation::Relaxation;
 use lk_expressions::{SymbolPositions, names_no_symbol};
 use lk_link::list::List;
 use lk_link::{LinkInput, Platform};
@@ -25,29 +26,26 @@ use std::alloc::{AllocError, Global};
 /// symbol, no positions are made.
 pub fn place_first<P: Platform>(
     alloc: Global,
-    link: &LinkInput,
-    live: &Live,
+    by: &Relaxation<'_, P>,
     owners: &PartOwners,
-    headers: u64,
-    platform: &P,
 ) -> Result<Placed, PlaceError>
-    requires good { IsWellFormed link.now }
-    requires live { AreLive link.now live.now }
-    requires thunks { AreThunkOwners link.now owners.now.thunks }
-    requires filled { (filling : Filling) × AreFilled (in_output link.now live.now filling) owners.now }
-    requires own { unwrap_or owners.now.sizes (own_sizes link.now) ≡ own_sizes link.now }
-    ensures { (filling : Filling) → AreFilled (in_output link.now live.now filling) owners.now
+    requires good { IsWellFormed by.now.link.now }
+    requires live { AreLive by.now.link.now by.now.live.now }
+    requires thunks { AreThunkOwners by.now.link.now owners.now.thunks }
+    requires filled { (filling : Filling) × AreFilled (in_output by.now.link.now by.now.live.now filling) owners.now }
+    requires own { unwrap_or owners.now.sizes (own_sizes by.now.link.now) ≡ own_sizes by.now.link.now }
+    ensures { (filling : Filling) → AreFilled (in_output by.now.link.now by.now.live.now filling) owners.now
         → GivesPlaced (setting_after (record {
-          filling = in_output link.now live.now filling;
-          target = platform_target (P.segment_start platform.now);
-          headers = headers;
-        }) (nothing_deleted link.now)) result }
+          filling = in_output by.now.link.now by.now.live.now filling;
+          target = platform_target (P.segment_start by.now.platform.now);
+          headers = by.now.headers;
+        }) (nothing_deleted by.now.link.now)) result }
 {
     // A law, which does nothing: where no expression names a symbol, it doesn't matter where symbols stand.
     answers_go_without_positions();
     let sizes = part_sizes(alloc, owners)?;
-    let positions = asked_positions(alloc, link, live, owners)?;
-    compute_layout_sections(alloc, link, &sizes, &positions, headers, platform)
+    let positions = asked_positions(alloc, by.link, by.live, owners)?;
+    compute_layout_sections(alloc, by.link, &sizes, &positions, by.headers, by.platform)
 }
 
 /// The positions of symbols, if an expression of the walk names one; else none is told, which takes no memory.

@@ -31,6 +31,15 @@ use std::alloc::{AllocError, Global};
 /// At most so many passes are made.
 const PASSES: usize = 5;
 
+/// A link that is relaxed, what is live of it, the platform that it is for, and the bytes of the headers.
+#[derive(Drop)]
+pub struct Relaxation<'a, P> {
+    pub link: &'a LinkInput,
+    pub live: &'a Live,
+    pub platform: &'a P,
+    pub headers: u64,
+}
+
 /// What comes into the parts of a relaxed link, what is deleted of its sections, and where all stands.
 #[derive(Drop)]
 pub struct RelaxedParts {
@@ -97,27 +106,24 @@ pub(crate) enum Turned {
 /// sections that it looks at, all input sections, symbols, events and parts. Refuses what a placement after the first one does.
 pub fn relax_owners<P: Platform>(
     alloc: Global,
-    link: &LinkInput,
-    platform: &P,
-    live: &Live,
+    by: &Relaxation<'_, P>,
     owners: PartOwners,
-    headers: u64,
     first: Placed,
 ) -> Result<RelaxedParts, PlaceError>
-    requires good { IsWellFormed link.now }
-    requires live { AreLive link.now live.now }
-    requires thunks { AreThunkOwners link.now owners.thunks }
-    requires own { unwrap_or owners.sizes (own_sizes link.now) ≡ own_sizes link.now }
+    requires good { IsWellFormed by.now.link.now }
+    requires live { AreLive by.now.link.now by.now.live.now }
+    requires thunks { AreThunkOwners by.now.link.now owners.thunks }
+    requires own { unwrap_or owners.sizes (own_sizes by.now.link.now) ≡ own_sizes by.now.link.now }
     requires first { (filling : Filling)
-        × AreFilled (in_output link.now live.now filling) owners
-        × ArePlacedFirst (relaxing (P.segment_start platform.now) headers (in_output link.now live.now filling)) first }
-    ensures { (filling : Filling) → AreFilled (in_output link.now live.now filling) owners
-        → ArePlacedFirst (relaxing (P.segment_start platform.now) headers (in_output link.now live.now filling)) first
-        → GivesRelaxedParts (relaxing (P.segment_start platform.now) headers (in_output link.now live.now filling)) result }
+        × AreFilled (in_output by.now.link.now by.now.live.now filling) owners
+        × ArePlacedFirst (relaxing (P.segment_start by.now.platform.now) by.now.headers (in_output by.now.link.now by.now.live.now filling)) first }
+    ensures { (filling : Filling) → AreFilled (in_output by.now.link.now by.now.live.now filling) owners
+        → ArePlacedFirst (relaxing (P.segment_start by.now.platform.now) by.now.headers (in_output by.now.link.now by.now.live.now filling)) first
+        → GivesRelaxedParts (relaxing (P.segment_start by.now.platform.now) by.now.headers (in_output by.now.link.now by.now.live.now filling)) result }
 {
     laws::nothing_deleted_leaves_all();
     laws::first_is_shrunk();
-    match begin(alloc, link, live, &owners) {
+    match begin(alloc, by.link, by.live, &owners) {
         Ok(Begun::Ended(deltas)) => Ok(RelaxedParts {
             owners,
             deltas,
@@ -125,7 +131,7 @@ pub fn relax_owners<P: Platform>(
         }),
         Ok(Begun::Looks(looks)) => {
             let hand = in_hand(owners, first, looks);
-            make_passes(alloc, link, platform, live, headers, hand)
+            make_passes(alloc, by, hand)
         }
         Err(error) => Err(PlaceError::from(error)),
     }
@@ -135,24 +141,21 @@ pub fn relax_owners<P: Platform>(
 /// sizes fit; `first` is its placement. The rest is as for `relax_owners` (libwild: `perform_iterative_relaxation`).
 pub fn perform_iterative_relaxation<P: Platform>(
     alloc: Global,
-    link: &LinkInput,
-    platform: &P,
-    live: &Live,
+    by: &Relaxation<'_, P>,
     merged_lens: &[u64],
     thunk_owners: &[(FileId, u64)],
-    headers: u64,
     first: Placed,
 ) -> Result<Relaxed, PlaceError>
-    requires good { IsWellFormed link.now }
-    requires live { AreLive link.now live.now }
-    requires thunks { AreThunkOwners link.now thunk_owners.now }
-    requires fits { size_refusal (own_filling link.now (P.table_sizes platform.now) live.now merged_lens.now thunk_owners.now) ≡ None }
-    requires first { ArePlacedFirst (relaxing (P.segment_start platform.now) headers (own_filling link.now (P.table_sizes platform.now) live.now merged_lens.now thunk_owners.now)) first }
-    ensures { GivesRelaxedLink (relaxing (P.segment_start platform.now) headers (own_filling link.now (P.table_sizes platform.now) live.now merged_lens.now thunk_owners.now)) result }
+    requires good { IsWellFormed by.now.link.now }
+    requires live { AreLive by.now.link.now by.now.live.now }
+    requires thunks { AreThunkOwners by.now.link.now thunk_owners.now }
+    requires fits { size_refusal (own_filling by.now.link.now (P.table_sizes by.now.platform.now) by.now.live.now merged_lens.now thunk_owners.now) ≡ None }
+    requires first { ArePlacedFirst (relaxing (P.segment_start by.now.platform.now) by.now.headers (own_filling by.now.link.now (P.table_sizes by.now.platform.now) by.now.live.now merged_lens.now thunk_owners.now)) first }
+    ensures { GivesRelaxedLink (relaxing (P.segment_start by.now.platform.now) by.now.headers (own_filling by.now.link.now (P.table_sizes by.now.platform.now) by.now.live.now merged_lens.now thunk_owners.now)) result }
 {
-    let owners = own_owners(alloc, link, platform, live, merged_lens, thunk_owners)?;
-    let parts = relax_owners(alloc, link, platform, live, owners, headers, first)?;
-    let sizes = sizes_after(alloc, link, &parts.deltas)?;
+    let owners = own_owners(alloc, by, merged_lens, thunk_owners)?;
+    let parts = relax_owners(alloc, by, owners, first)?;
+    let sizes = sizes_after(alloc, by.link, &parts.deltas)?;
     Ok(Relaxed {
         sizes,
         deltas: parts.deltas,
@@ -163,20 +166,18 @@ pub fn perform_iterative_relaxation<P: Platform>(
 /// What comes into the parts by the sizes of the description, where these fit.
 fn own_owners<P: Platform>(
     alloc: Global,
-    link: &LinkInput,
-    platform: &P,
-    live: &Live,
+    by: &Relaxation<'_, P>,
     merged_lens: &[u64],
     thunk_owners: &[(FileId, u64)],
 ) -> Result<PartOwners, AllocError>
-    requires good { IsWellFormed link.now }
-    requires live { AreLive link.now live.now }
-    requires thunks { AreThunkOwners link.now thunk_owners.now }
-    requires fits { size_refusal (own_filling link.now (P.table_sizes platform.now) live.now merged_lens.now thunk_owners.now) ≡ None }
-    ensures { IfOk result (AreFilled (own_filling link.now (P.table_sizes platform.now) live.now merged_lens.now thunk_owners.now)) }
+    requires good { IsWellFormed by.now.link.now }
+    requires live { AreLive by.now.link.now by.now.live.now }
+    requires thunks { AreThunkOwners by.now.link.now thunk_owners.now }
+    requires fits { size_refusal (own_filling by.now.link.now (P.table_sizes by.now.platform.now) by.now.live.now merged_lens.now thunk_owners.now) ≡ None }
+    ensures { IfOk result (AreFilled (own_filling by.now.link.now (P.table_sizes by.now.platform.now) by.now.live.now merged_lens.now thunk_owners.now)) }
 {
-    let plain = fitting(plain_owners(alloc, link, platform, live, merged_lens))?;
-    fitting(add_thunks(alloc, link, plain, thunk_owners))
+    let plain = fitting(plain_owners(alloc, by.link, by.platform, by.live, merged_lens))?;
+    fitting(add_thunks(alloc, by.link, plain, thunk_owners))
 }
 
 /// What sizing answers where the sizes fit.
@@ -239,28 +240,25 @@ fn in_hand(owners: PartOwners, first: Placed, looks: Looks) -> InHand
 /// Makes passes from the first stage on.
 fn make_passes<P: Platform>(
     alloc: Global,
-    link: &LinkInput,
-    platform: &P,
-    live: &Live,
-    headers: u64,
+    by: &Relaxation<'_, P>,
     hand: InHand,
 ) -> Result<RelaxedParts, PlaceError>
-    requires good { IsWellFormed link.now }
-    requires live { AreLive link.now live.now }
+    requires good { IsWellFormed by.now.link.now }
+    requires live { AreLive by.now.link.now by.now.live.now }
     requires first { (filling : Filling)
-        × (is : IsStage (relaxing (P.segment_start platform.now) headers (in_output link.now live.now filling)) hand)
-        × IsFirst (relaxing (P.segment_start platform.now) headers (in_output link.now live.now filling)) (stage_in hand is) }
+        × (is : IsStage (relaxing (P.segment_start by.now.platform.now) by.now.headers (in_output by.now.link.now by.now.live.now filling)) hand)
+        × IsFirst (relaxing (P.segment_start by.now.platform.now) by.now.headers (in_output by.now.link.now by.now.live.now filling)) (stage_in hand is) }
     ensures { (filling : Filling)
-        (is : IsStage (relaxing (P.segment_start platform.now) headers (in_output link.now live.now filling)) hand)
-        → IsFirst (relaxing (P.segment_start platform.now) headers (in_output link.now live.now filling)) (stage_in hand is)
-        → GivesRelaxedParts (relaxing (P.segment_start platform.now) headers (in_output link.now live.now filling)) result }
+        (is : IsStage (relaxing (P.segment_start by.now.platform.now) by.now.headers (in_output by.now.link.now by.now.live.now filling)) hand)
+        → IsFirst (relaxing (P.segment_start by.now.platform.now) by.now.headers (in_output by.now.link.now by.now.live.now filling)) (stage_in hand is)
+        → GivesRelaxedParts (relaxing (P.segment_start by.now.platform.now) by.now.headers (in_output by.now.link.now by.now.live.now filling)) result }
 {
     let mut hand = hand;
     for _pass in 0..PASSES {
         if hand.scan.is_empty() {
             return Ok(end_of(hand));
         }
-        match turn(alloc, link, platform, live, headers, hand)? {
+        match turn(alloc, by, hand)? {
             Turned::Last(parts) => return Ok(parts),
             Turned::Next(next) => hand = next,
         }
@@ -282,22 +280,19 @@ fn end_of(hand: InHand) -> RelaxedParts
 /// A pass from a stage with sections to look at, and where capacities fell by it, the next placement.
 fn turn<P: Platform>(
     alloc: Global,
-    link: &LinkInput,
-    platform: &P,
-    live: &Live,
-    headers: u64,
+    by: &Relaxation<'_, P>,
     hand: InHand,
 ) -> Result<Turned, PlaceError>
-    requires good { IsWellFormed link.now }
-    requires live { AreLive link.now live.now }
+    requires good { IsWellFormed by.now.link.now }
+    requires live { AreLive by.now.link.now by.now.live.now }
     requires some { 0 < length hand.scan.items }
-    requires stage { (filling : Filling) × IsStage (relaxing (P.segment_start platform.now) headers (in_output link.now live.now filling)) hand }
+    requires stage { (filling : Filling) × IsStage (relaxing (P.segment_start by.now.platform.now) by.now.headers (in_output by.now.link.now by.now.live.now filling)) hand }
     ensures { (filling : Filling)
-        (is : IsStage (relaxing (P.segment_start platform.now) headers (in_output link.now live.now filling)) hand)
-        → GivesTurn (relaxing (P.segment_start platform.now) headers (in_output link.now live.now filling)) (stage_in hand is) hand result }
+        (is : IsStage (relaxing (P.segment_start by.now.platform.now) by.now.headers (in_output by.now.link.now by.now.live.now filling)) hand)
+        → GivesTurn (relaxing (P.segment_start by.now.platform.now) by.now.headers (in_output by.now.link.now by.now.live.now filling)) (stage_in hand is) hand result }
 {
     laws::passes_stay_shrunk();
-    let passed = pass(alloc, link, live, hand)?;
+    let passed = pass(alloc, by.link, by.live, hand)?;
     if passed.fall == 0 {
         return Ok(Turned::Last(RelaxedParts {
             owners: passed.owners,
@@ -305,37 +300,26 @@ fn turn<P: Platform>(
             placed: passed.placed,
         }));
     }
-    let next = place_anew(alloc, link, platform, live, headers, passed)?;
+    let next = place_anew(alloc, by, passed)?;
     Ok(Turned::Next(next))
 }
 
 /// Places all parts by what is deleted behind a pass.
 fn place_anew<P: Platform>(
     alloc: Global,
-    link: &LinkInput,
-    platform: &P,
-    live: &Live,
-    headers: u64,
+    by: &Relaxation<'_, P>,
     passed: Passed,
 ) -> Result<InHand, PlaceError>
-    requires good { IsWellFormed link.now }
-    requires live { AreLive link.now live.now }
-    requires thunks { AreThunkOwners link.now passed.owners.thunks }
+    requires good { IsWellFormed by.now.link.now }
+    requires live { AreLive by.now.link.now by.now.live.now }
+    requires thunks { AreThunkOwners by.now.link.now passed.owners.thunks }
     requires filled { (filling : Filling)
-        × AreFilled (filling_after (relaxing (P.segment_start platform.now) headers (in_output link.now live.now filling)) passed.deltas.items) passed.owners }
+        × AreFilled (filling_after (relaxing (P.segment_start by.now.platform.now) by.now.headers (in_output by.now.link.now by.now.live.now filling)) passed.deltas.items) passed.owners }
     ensures { (filling : Filling)
-        → AreFilled (filling_after (relaxing (P.segment_start platform.now) headers (in_output link.now live.now filling)) passed.deltas.items) passed.owners
-        → GivesAnew (relaxing (P.segment_start platform.now) headers (in_output link.now live.now filling)) passed result }
+        → AreFilled (filling_after (relaxing (P.segment_start by.now.platform.now) by.now.headers (in_output by.now.link.now by.now.live.now filling)) passed.deltas.items) passed.owners
+        → GivesAnew (relaxing (P.segment_start by.now.platform.now) by.now.headers (in_output by.now.link.now by.now.live.now filling)) passed result }
 {
-    match make_places(
-        alloc,
-        link,
-        platform,
-        live,
-        headers,
-        &passed.owners,
-        &passed.deltas,
-    ) {
+    match make_places(alloc, by, &passed.owners, &passed.deltas) {
         Ok(places) => Ok(InHand {
             owners: passed.owners,
             deltas: passed.deltas,
@@ -351,25 +335,31 @@ fn place_anew<P: Platform>(
 /// Where all stands by what comes into the parts behind what is deleted.
 fn make_places<P: Platform>(
     alloc: Global,
-    link: &LinkInput,
-    platform: &P,
-    live: &Live,
-    headers: u64,
+    by: &Relaxation<'_, P>,
     owners: &PartOwners,
     deltas: &[RelaxDeltaMap],
 ) -> Result<LinkPositions, PlaceError>
-    requires good { IsWellFormed link.now }
-    requires live { AreLive link.now live.now }
-    requires thunks { AreThunkOwners link.now owners.now.thunks }
+    requires good { IsWellFormed by.now.link.now }
+    requires live { AreLive by.now.link.now by.now.live.now }
+    requires thunks { AreThunkOwners by.now.link.now owners.now.thunks }
     requires filled { (filling : Filling)
-        × AreFilled (filling_after (relaxing (P.segment_start platform.now) headers (in_output link.now live.now filling)) deltas.now) owners.now }
+        × AreFilled (filling_after (relaxing (P.segment_start by.now.platform.now) by.now.headers (in_output by.now.link.now by.now.live.now filling)) deltas.now) owners.now }
     ensures { (filling : Filling)
-        → AreFilled (filling_after (relaxing (P.segment_start platform.now) headers (in_output link.now live.now filling)) deltas.now) owners.now
-        → GivesPlaces (relaxing (P.segment_start platform.now) headers (in_output link.now live.now filling)) deltas.now result }
+        → AreFilled (filling_after (relaxing (P.segment_start by.now.platform.now) by.now.headers (in_output by.now.link.now by.now.live.now filling)) deltas.now) owners.now
+        → GivesPlaces (relaxing (P.segment_start by.now.platform.now) by.now.headers (in_output by.now.link.now by.now.live.now filling)) deltas.now result }
 {
-    let (sections, symbols) = compute_input_section_positions(alloc, link, live, owners, deltas)?;
+    let (sections, symbols) = compute_input_section_positions(
+        alloc, by.link, by.live, owners, deltas,
+    )?;
     let sizes = part_sizes(alloc, owners)?;
-    let placed = compute_layout_sections(alloc, link, &sizes, &symbols, headers, platform)?;
+    let placed = compute_layout_sections(
+        alloc,
+        by.link,
+        &sizes,
+        &symbols,
+        by.headers,
+        by.platform,
+    )?;
     Ok(LinkPositions {
         sections,
         symbols,

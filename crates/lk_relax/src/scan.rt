@@ -23,50 +23,30 @@ use std::alloc::{AllocError, Global};
 
 /// How all stands before a pass, or behind the last.
 #[derive(Clone, Copy)]
-pub(crate) struct Before<'a> {
-    pub(crate) link: &'a LinkInput,
-    pub(crate) live: &'a Live,
+pub struct Standing<'a> {
+    pub link: &'a LinkInput,
+    pub live: &'a Live,
     /// The positions of input sections, by number.
-    pub(crate) sections: &'a [Option<(PartId, u64)>],
-    pub(crate) symbols: &'a SymbolPositions,
-    pub(crate) parts: &'a [OutputRecordLayout],
+    pub sections: &'a [Option<(PartId, u64)>],
+    pub symbols: &'a SymbolPositions,
+    /// The records of the parts.
+    pub parts: &'a [OutputRecordLayout],
     /// What is deleted of the sections of each file, by the file's number.
-    pub(crate) deltas: &'a [RelaxDeltaMap],
+    pub deltas: &'a [RelaxDeltaMap],
 }
 
 /// For each of these sections of files what more is to be deleted of it, and by how many bytes the nearest candidate misses that doesn't
-/// go, if one does. All goes by the addresses before the pass: by the positions of sections and symbols, the records of the parts, and
-/// what is deleted. Takes time by the candidates of these sections, for each logarithmic in the files, and in what is deleted of its section
+/// go, if one does. All goes by the addresses before the pass. Takes time by the candidates of these sections, for each logarithmic in the files, and in what is deleted of its section
 /// (libwild: `relaxation_scan_pass`).
 pub fn relaxation_scan_pass(
     alloc: Global,
-    link: &LinkInput,
-    live: &Live,
+    before: Standing<'_>,
     scan: &[(FileId, u32)],
-    positions: &[Option<(PartId, u64)>],
-    symbols: &SymbolPositions,
-    parts: &[OutputRecordLayout],
-    deltas: &[RelaxDeltaMap],
 ) -> Result<Vec<(FileId, u32, SectionRelaxDeltas, Option<u64>)>, AllocError>
-    requires good { IsWellFormed link.now }
-    requires scan { All (λ q. CanBeScanned link.now.groups deltas.now q.0 q.1) scan.now }
-    ensures { IfOk result (λ found. found.items ≡ map (scanned (record {
-      link = link.now;
-      live = live.now;
-      sections = positions.now;
-      symbols = symbols.now;
-      parts = parts.now;
-      deletions = deltas.now;
-    })) scan.now) }
+    requires good { IsWellFormed before.link.now }
+    requires scan { All (λ q. CanBeScanned before.link.now.groups before.deltas.now q.0 q.1) scan.now }
+    ensures { IfOk result (λ found. found.items ≡ map (scanned (standing_of before.entry)) scan.now) }
 {
-    let before = Before {
-        link,
-        live,
-        sections: positions,
-        symbols,
-        parts,
-        deltas,
-    };
     let mut found = Vec::with_capacity(alloc, scan.len())?;
     for section in scan {
         let one = scan_section(alloc, before, section.0, section.1)?;
@@ -78,7 +58,7 @@ pub fn relaxation_scan_pass(
 /// The same for one section.
 fn scan_section(
     alloc: Global,
-    before: Before<'_>,
+    before: Standing<'_>,
     file: FileId,
     index: u32,
 ) -> Result<(FileId, u32, SectionRelaxDeltas, Option<u64>), AllocError>
@@ -96,7 +76,7 @@ fn scan_section(
 }
 
 /// What tells of the candidates of a section.
-pub(crate) fn judge_of<'a>(before: Before<'a>, file: FileId, index: u32) -> SectionJudge<'a>
+pub(crate) fn judge_of<'a>(before: Standing<'a>, file: FileId, index: u32) -> SectionJudge<'a>
     requires good { IsWellFormed before.link.now }
     requires there { IsSome (file_in before.link.now.groups file) }
     ensures tells { (c : RelaxCandidate) → judged result c ≡ told (standing_of before.entry) file index c }

@@ -16,7 +16,7 @@ ghost use Rattle.lk_relax.specs.ScanWords.{standing_of};
 ghost use Rattle.lk_relax.specs.Sites.{CanAllBeScanned, file_past, is_nothing_deleted, past_limit, section_past};
 ghost use Rattle.lk_stops.specs.Stops.{StopsAtFirst};
 
-use crate::scan::{Before, judge_of, relax_of};
+use crate::scan::{Standing, judge_of, relax_of};
 use lk_deltas::{RelaxDeltaMap, SectionRelaxDeltas, first_past, laws, map_of};
 use lk_expressions::{OutputRecordLayout, SymbolPositions};
 use lk_link::{FileId, FileRef, InputSection, LinkInput, PartId};
@@ -60,43 +60,13 @@ pub fn is_nothing_deleted(deltas: &[RelaxDeltaMap]) -> bool
 }
 
 /// Refuses the first candidate that is past its limit: its bytes are gone, and its symbol is farther from where they stood than it may
-/// be. All goes by final addresses: by the positions of sections and symbols, the records of the parts, and what is deleted. Looks
-/// at the sections of files of which something is deleted, and there at the candidates of sections of which something is; takes no
-/// memory, and logarithmic time in the files, and in what is deleted of the section, for each candidate whose bytes are gone.
-pub fn check_sites(
-    link: &LinkInput,
-    live: &Live,
-    positions: &[Option<(PartId, u64)>],
-    symbols: &SymbolPositions,
-    parts: &[OutputRecordLayout],
-    deltas: &[RelaxDeltaMap],
-) -> Result<(), RelaxedPlace>
-    requires good { IsWellFormed link.now }
-    requires scanned { CanAllBeScanned link.now deltas.now }
-    ensures { StopsAtFirst (past_limit (record {
-      link = link.now;
-      live = live.now;
-      sections = positions.now;
-      symbols = symbols.now;
-      parts = parts.now;
-      deletions = deltas.now;
-    })) result }
-{
-    check_files(Before {
-        link,
-        live,
-        sections: positions,
-        symbols,
-        parts,
-        deltas,
-    })
-}
-
-/// Refuses the first candidate of all files that is past its limit.
-fn check_files(by: Before<'_>) -> Result<(), RelaxedPlace>
+/// be. All goes by final addresses. Looks at the sections of files of which something is deleted, and there at the candidates of sections
+/// of which something is; takes no memory, and logarithmic time in the files, and in what is deleted of the section, for each candidate
+/// whose bytes are gone.
+pub fn check_sites(by: Standing<'_>) -> Result<(), RelaxedPlace>
     requires good { IsWellFormed by.link.now }
     requires scanned { CanAllBeScanned by.link.now by.deltas.now }
-    ensures { StopsAtFirst (flat_map (file_past (standing_of by.entry)) (numbered_files by.entry.link.now.groups)) result }
+    ensures { StopsAtFirst (past_limit (standing_of by.entry)) result }
 {
     for file in by.link.groups.files() {
         check_file(by, file)?;
@@ -105,7 +75,7 @@ fn check_files(by: Before<'_>) -> Result<(), RelaxedPlace>
 }
 
 /// Refuses the first candidate of a file that is past its limit.
-fn check_file(by: Before<'_>, file: FileRef<'_>) -> Result<(), RelaxedPlace>
+fn check_file(by: Standing<'_>, file: FileRef<'_>) -> Result<(), RelaxedPlace>
     requires good { IsWellFormed by.link.now }
     requires scanned { CanAllBeScanned by.link.now by.deltas.now }
     requires there { file_in by.link.now.groups file.id ≡ Some file.file.now }
@@ -122,7 +92,7 @@ fn check_file(by: Before<'_>, file: FileRef<'_>) -> Result<(), RelaxedPlace>
 
 /// Refuses the first candidate of a file's sections that is past its limit, by what is deleted of these.
 fn check_sections(
-    by: Before<'_>,
+    by: Standing<'_>,
     file: FileRef<'_>,
     map: &RelaxDeltaMap,
 ) -> Result<(), RelaxedPlace>
@@ -140,7 +110,7 @@ fn check_sections(
 
 /// Refuses the first candidate of a section that is past its limit, by what is deleted of the sections of its file.
 fn check_section(
-    by: Before<'_>,
+    by: Standing<'_>,
     file: FileRef<'_>,
     map: &RelaxDeltaMap,
     index: u32,
@@ -161,7 +131,7 @@ fn check_section(
 
 /// Refuses the first candidate of a section that is past its limit, by what is deleted of the section.
 fn check_candidates(
-    by: Before<'_>,
+    by: Standing<'_>,
     file: FileId,
     index: u32,
     section: &InputSection,

@@ -1,7 +1,6 @@
 -- Places in live input sections: their addresses by a table, and the room behind them.
-use Rattle.std.proofs.Common.{◌≡◌, ℕ, zero, suc, ◌+◌, ◌<◌, ◌≤◌, ◌^◌, Bool, true, false, cond, List, [], ◌∷◌, length, map, Option, Some, None, refl, ap, ◌∙◌, arith, get_or}
+use Rattle.std.proofs.Common.{◌≡◌, ℕ, zero, suc, ◌+◌, ◌<◌, ◌≤◌, ◌^◌, Bool, true, false, List, [], ◌∷◌, length, map, Option, Some, None, refl, ap, ◌∙◌, arith, get_or}
 use Rattle.std.specs.Prelude.{if◌then◌else◌, option_map, slice_get}
-use Rattle.std.specs.Int.{next_multiple_of}
 use Rattle.std.specs.List.{flat_map, slice_index, slice_index_or}
 use Rattle.std.proofs.Math.Path.{fun_ext}
 use Rattle.std.proofs.lemmas.List.{length-map}
@@ -9,7 +8,6 @@ use Rattle.std.proofs.lemmas.Option.{get_or_from_slice_get, slice_get-get_or}
 use Rattle.lk_link.specs.declared.file.InputFile.{InputFile}
 use Rattle.lk_link.specs.declared.ids.FileId.{FileId}
 use Rattle.lk_link.specs.declared.link.LinkInput.{LinkInput}
-use Rattle.lk_link.specs.declared.plan.PlanPart.{PlanPart}
 use Rattle.lk_link.specs.declared.section.InputSection.{InputSection}
 use Rattle.lk_link.specs.declared.section.InputSlot.{InputSlot}
 use Rattle.lk_link.specs.declared.section.InputSlot.TheVariants as slot
@@ -22,7 +20,6 @@ use Rattle.lk_link.specs.Inputs.{Input, all_inputs, input_number, numbered_files
 use Rattle.lk_link.specs.InputSlots.{can_be_kept, is_merge}
 use Rattle.lk_link.specs.Marks.{is_marked}
 use Rattle.lk_link.specs.Parts.{all_parts}
-use Rattle.lk_link.specs.Sizes.{capacity}
 use Rattle.lk_link.specs.SymbolRules.{IsPlacementThere}
 use Rattle.lk_link.specs.WellFormed.{IsWellFormed}
 use Rattle.lk_link.proofs.Elements.{map_in}
@@ -40,7 +37,7 @@ use Rattle.lk_sizes.specs.PartOwners.{EndsFit, live_address}
 use Rattle.lk_sizes.proofs.LiveOnes.{live_goes}
 use Rattle.lk_sizes.proofs.Numbering.{table_at}
 use Rattle.lk_deltas.specs.LinkDeletions.{Deletions, output_offset, size_after, sizes_after}
-use Rattle.lk_sizes.proofs.Placed.{ends_within, size-le}
+use Rattle.lk_sizes.proofs.Placed.{ends_within}
 use Rattle.lk_resolutions.specs.Starts.{TakeTheirBytes, starts_of}
 use Rattle.lk_resolutions.specs.Entries.{entry_setting}
 use Rattle.lk_resolutions.specs.Resolutions.{ValueAddresses, address_at, file_resolutions, images_at, merged_value, symbol_resolutions}

@@ -11,6 +11,7 @@ mod imaged;
 mod inputs;
 mod laid_out;
 pub mod laws;
+mod process;
 pub mod program;
 pub mod status;
 pub mod too_long;

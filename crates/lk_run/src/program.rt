@@ -7,6 +7,7 @@ ghost use Rattle.std.specs.Vec.Iter.{into_iter_items};
 ghost use Rattle.lk_run.specs.Program.{IsProgramRun, IsStopped};
 ghost use Rattle.lk_run.specs.RunAlone.{AsksForWorkers};
 
+use crate::process::Process;
 use crate::status::Status;
 use crate::top_call::run_words;
 use crate::words::words_behind_name;
@@ -40,7 +41,14 @@ pub fn run_program<R: Threads + Wait + Sync, S: Source, K: Sink>(
         Err(_) => return Status::NoMemory.exit_code(),
     };
     match words {
-        Ok(words) => run_words(rt, alloc, &words, source, sink, &NoGate, true).exit_code(),
+        Ok(words) => {
+            let process = Process {
+                rt,
+                gate: &NoGate,
+                is_last: true,
+            };
+            run_words(&process, alloc, &words, source, sink).exit_code()
+        }
         Err(_) => Status::NoMemory.exit_code(),
     }
 }

@@ -19,6 +19,7 @@ use crate::imaged::{answer_image, answer_image_alone};
 use crate::inputs::{CommandInput, answer_too_long, read_for};
 use crate::laid_out::{answer_layout, answer_layout_alone};
 use crate::laws::runs_are_sound;
+use crate::process::Process;
 use crate::status::Status;
 use crate::words::{Command, read_words, usage_text};
 use lk_devices::sink::Sink;
@@ -29,25 +30,23 @@ use std::alloc::{AllocError, Global};
 use std::sync::Wait;
 use std::thread::Threads;
 
-/// The answer of a command to all bytes of its source. `is_last` says that the process ends behind it.
+/// The answer of a command to all bytes of its source.
 fn answer_bytes<R: Threads + Wait + Sync, G: Gate + Sync>(
-    rt: &R,
+    process: &Process<'_, R, G>,
     alloc: Global,
     command: Command,
     bytes: Vec<u8>,
-    gate: &G,
-    is_last: bool,
 ) -> Result<Answer, AllocError>
-    requires gate { 2 ≤ workers_for command → G.may_enter gate.now }
+    requires gate { 2 ≤ workers_for command → G.may_enter process.now.gate.now }
     requires asked { CanBeAsked command }
     ensures { IfOk result (IsMadeOf command bytes.items) }
 {
     match command {
-        Command::Layout(workers) => answer_layout(rt, alloc, workers, bytes, gate, is_last),
+        Command::Layout(workers) => answer_layout(process, alloc, workers, bytes),
         Command::Gen { seed, size } => answer_gen(alloc, seed, size),
         Command::Why { file, index } => answer_why(alloc, file, index, bytes),
         Command::Check => answer_check(alloc, bytes),
-        Command::Image(workers) => answer_image(rt, alloc, workers, bytes, gate, is_last),
+        Command::Image(workers) => answer_image(process, alloc, workers, bytes),
     }
 }
 
@@ -67,19 +66,17 @@ fn answer_bytes_alone(alloc: Global, command: Command, bytes: Vec<u8>) -> Result
 
 /// The answer of a command to what its source was found to hold.
 fn answer<R: Threads + Wait + Sync, G: Gate + Sync>(
-    rt: &R,
+    process: &Process<'_, R, G>,
     alloc: Global,
     command: Command,
     input: CommandInput,
-    gate: &G,
-    is_last: bool,
 ) -> Result<Answer, AllocError>
-    requires gate { 2 ≤ workers_for command → G.may_enter gate.now }
+    requires gate { 2 ≤ workers_for command → G.may_enter process.now.gate.now }
     requires asked { CanBeAsked command }
     ensures { IfOk result (IsMadeFor command (held_by input)) }
 {
     match input {
-        CommandInput::Bytes(bytes) => answer_bytes(rt, alloc, command, bytes, gate, is_last),
+        CommandInput::Bytes(bytes) => answer_bytes(process, alloc, command, bytes),
         CommandInput::TooLong => answer_too_long(alloc),
     }
 }
@@ -115,23 +112,21 @@ fn write_made<K: Sink>(answer: Result<Answer, AllocError>, sink: &mut K) -> Stat
     }
 }
 
-/// Runs a command. `is_last` says that the process ends behind it.
+/// Runs a command.
 fn run_command<R: Threads + Wait + Sync, S: Source, K: Sink, G: Gate + Sync>(
-    rt: &R,
+    process: &Process<'_, R, G>,
     alloc: Global,
     command: Command,
     source: &mut S,
     sink: &mut K,
-    gate: &G,
-    is_last: bool,
 ) -> Status
-    requires gate { 2 ≤ workers_for command → G.may_enter gate.now }
+    requires gate { 2 ≤ workers_for command → G.may_enter process.now.gate.now }
     requires asked { CanBeAsked command }
     ensures run { IsCommandRun command (S.state source.old) (S.state source.new) (K.state sink.old) (K.state sink.new) result }
     ensures mapped { IsMappedCommand command (S.state source.old) (K.state sink.old) (K.state sink.new) result }
 {
     match read_for(alloc, command, source) {
-        Ok(input) => write_made(answer(rt, alloc, command, input, gate, is_last), sink),
+        Ok(input) => write_made(answer(process, alloc, command, input), sink),
         Err(status) => status,
     }
 }
@@ -163,23 +158,20 @@ fn run_usage<K: Sink>(sink: &mut K) -> Status
     }
 }
 
-/// What the words ask for. `is_last` says that the process ends behind it: then what was laid out isn't let go piece by piece, and
-/// stays for the system.
+/// What the words ask for.
 pub(crate) fn run_words<R: Threads + Wait + Sync, S: Source, K: Sink, G: Gate + Sync>(
-    rt: &R,
+    process: &Process<'_, R, G>,
     alloc: Global,
     words: &[String],
     source: &mut S,
     sink: &mut K,
-    gate: &G,
-    is_last: bool,
 ) -> Status
-    requires gate { AsksForWorkers (map string_bytes words.now) → G.may_enter gate.now }
+    requires gate { AsksForWorkers (map string_bytes words.now) → G.may_enter process.now.gate.now }
     ensures run { IsRun (map string_bytes words.now) (S.state source.old) (S.state source.new) (K.state sink.old) (K.state sink.new) result }
     ensures mapped { IsMappedRun (map string_bytes words.now) (S.state source.old) (K.state sink.old) (K.state sink.new) result }
 {
     match read_words(words) {
-        Some(command) => run_command(rt, alloc, command, source, sink, gate, is_last),
+        Some(command) => run_command(process, alloc, command, source, sink),
         None => run_usage(sink),
     }
 }
@@ -228,7 +220,12 @@ pub fn run<R: Threads + Wait + Sync, S: Source, K: Sink, G: Gate + Sync>(
     ensures mapped { IsMappedRun (map string_bytes words.now) (S.state source.old) (K.state sink.old) (K.state sink.new) result }
 {
     runs_are_sound();
-    run_words(rt, alloc, words, source, sink, gate, false)
+    let process = Process {
+        rt,
+        gate,
+        is_last: false,
+    };
+    run_words(&process, alloc, words, source, sink)
 }
 
 /// The same on the caller's own thread. It waits for nobody, and always returns. `None` tells that the words ask for

@@ -8,4 +8,4 @@ pub relaxation_scan_pass-requires-clause-scan : goal.relaxation_scan_pass-requir
 relaxation_scan_pass-requires-clause-scan c =
     let groups = c.args.link.now.groups in
     let Can : Deletions → List (FileId × ℕ) → Type 0 = λ ds qs. All (λ q. CanBeScanned groups ds q.0 q.1) qs in
-    subst (λ ds. Can ds c.deref.result.now) (sym c.deref-3.ensures.value) (subst (Can c.args.hand.now.deltas.items) (sym c.deref.ensures.value) c.requires.stage.1.shrunk.scan)
+    subst (λ ds. Can ds c.deref-3.result.now) (sym c.deref-2.ensures.value) (subst (Can c.args.hand.now.deltas.items) (sym c.deref-3.ensures.value) c.requires.stage.1.shrunk.scan)

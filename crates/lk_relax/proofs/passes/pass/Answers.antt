@@ -1,4 +1,4 @@
-use Rattle.std.proofs.Common.{◌≡◌, ap, refl, sym, subst, ◌∙◌}
+use Rattle.std.proofs.Common.{ap, refl, sym, subst, ◌∙◌}
 use Rattle.std.specs.Prelude.{unwrap_or}
 use Rattle.lk_sizes.specs.Owners.{own_sizes}
 use Rattle.lk_sizes.specs.OwnersRecord.{OwnersRecord}

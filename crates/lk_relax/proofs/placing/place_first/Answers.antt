@@ -9,15 +9,15 @@ use Rattle.lk_relax.proofs.placing.place_first.Goals as goal
 pub compute_layout_sections-requires-clause-each : goal.compute_layout_sections-requires-clause-each
 compute_layout_sections-requires-clause-each g c =
     let filled = c.requires.filled in
-    let filling = in_output c.args.link.now c.args.live.now filled.0 in
+    let filling = in_output c.args.by.now.link.now c.args.by.now.live.now filled.0 in
     ap length (c.deref.ensures.value ∙ c.in_ok-sizes.ensures.sizes filling filled.1.contents) ∙ length-part_sizes filling
 
 pub returns : goal.returns
 returns g c = λ filling h.
     let by : Relaxing = record {
-      filling = in_output c.args.link.now c.args.live.now filling;
-      target = platform_target (g.P.Platform.segment_start c.args.platform.now);
-      headers = c.args.headers;
+      filling = in_output c.args.by.now.link.now c.args.by.now.live.now filling;
+      target = platform_target (g.P.Platform.segment_start c.args.by.now.platform.now);
+      headers = c.args.by.now.headers;
     } in
     first_given c.answers_go_without_positions.ensures by c.deref.result.now c.in_ok-positions.positions c.compute_layout_sections.result
     (sym h.sizes ∙ c.requires.own)

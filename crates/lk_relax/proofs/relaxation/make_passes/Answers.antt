@@ -10,12 +10,12 @@ use Rattle.lk_relax.proofs.relaxation.make_passes.Goals as goal
 
 pub loop-pass-init : goal.loop-pass-init
 loop-pass-init g c = λ filling is first.
-    let by : Relaxing = relaxing (g.P.Platform.segment_start c.args.platform.now) c.args.headers (in_output c.args.link.now c.args.live.now filling) in
+    let by : Relaxing = relaxing (g.P.Platform.segment_start c.args.by.now.platform.now) c.args.by.now.headers (in_output c.args.by.now.link.now c.args.by.now.live.now filling) in
     first_in_hand by c.args.hand is first
 
 pub returns-then-is_empty : goal.returns-then-is_empty
 returns-then-is_empty g c = λ filling is first.
-    let by : Relaxing = relaxing (g.P.Platform.segment_start c.args.platform.now) c.args.headers (in_output c.args.link.now c.args.live.now filling) in
+    let by : Relaxing = relaxing (g.P.Platform.segment_start c.args.by.now.platform.now) c.args.by.now.headers (in_output c.args.by.now.link.now c.args.by.now.live.now filling) in
     let none : length c.loop-pass.hand.scan.items ≡ 0 = search rules in
     subst (AreRelaxed by) (sym c.end_of.ensures) (ends_unseen by (5 - c.loop-pass._pass) c.loop-pass.hand (c.loop-pass.invariant filling is first) none)
 
@@ -24,7 +24,7 @@ turn-requires-clause-stage g c = (c.requires.first.0, (c.loop-pass.invariant c.r
 
 pub returns-in_err-parts : goal.returns-in_err-parts
 returns-in_err-parts g c = λ filling is first.
-    let by : Relaxing = relaxing (g.P.Platform.segment_start c.args.platform.now) c.args.headers (in_output c.args.link.now c.args.live.now filling) in
+    let by : Relaxing = relaxing (g.P.Platform.segment_start c.args.by.now.platform.now) c.args.by.now.headers (in_output c.args.by.now.link.now c.args.by.now.live.now filling) in
     let left : ℕ = 5 - c.loop-pass._pass in
     let rest : ℕ = 5 - (c.loop-pass._pass + 1) in
     let count : left ≡ suc rest = omega (arith, c.loop-pass-test.true) in
@@ -35,7 +35,7 @@ returns-in_err-parts g c = λ filling is first.
 
 pub returns-in-Last : goal.returns-in-Last
 returns-in-Last g c = λ filling is first.
-    let by : Relaxing = relaxing (g.P.Platform.segment_start c.args.platform.now) c.args.headers (in_output c.args.link.now c.args.live.now filling) in
+    let by : Relaxing = relaxing (g.P.Platform.segment_start c.args.by.now.platform.now) c.args.by.now.headers (in_output c.args.by.now.link.now c.args.by.now.live.now filling) in
     let left : ℕ = 5 - c.loop-pass._pass in
     let rest : ℕ = 5 - (c.loop-pass._pass + 1) in
     let count : left ≡ suc rest = omega (arith, c.loop-pass-test.true) in
@@ -45,7 +45,7 @@ returns-in-Last g c = λ filling is first.
 
 pub loop-pass-preserved : goal.loop-pass-preserved
 loop-pass-preserved g c = λ filling is first.
-    let by : Relaxing = relaxing (g.P.Platform.segment_start c.args.platform.now) c.args.headers (in_output c.args.link.now c.args.live.now filling) in
+    let by : Relaxing = relaxing (g.P.Platform.segment_start c.args.by.now.platform.now) c.args.by.now.headers (in_output c.args.by.now.link.now c.args.by.now.live.now filling) in
     let left : ℕ = 5 - c.loop-pass._pass in
     let rest : ℕ = 5 - (c.loop-pass._pass + 1) in
     let count : left ≡ suc rest = omega (arith, c.loop-pass-test.true) in
@@ -55,6 +55,6 @@ loop-pass-preserved g c = λ filling is first.
 
 pub returns : goal.returns
 returns g c = λ filling is first.
-    let by : Relaxing = relaxing (g.P.Platform.segment_start c.args.platform.now) c.args.headers (in_output c.args.link.now c.args.live.now filling) in
+    let by : Relaxing = relaxing (g.P.Platform.segment_start c.args.by.now.platform.now) c.args.by.now.headers (in_output c.args.by.now.link.now c.args.by.now.live.now filling) in
     let none : 5 - c.loop-pass._pass ≡ 0 = omega (arith, c.loop-pass-test.false) in
     subst (AreRelaxed by) (sym c.end_of-2.ensures) (ends_last by (5 - c.loop-pass._pass) c.loop-pass.hand none (c.loop-pass.invariant filling is first))

@@ -7,6 +7,6 @@ use Rattle.lk_relax.proofs.relaxation.make_passes.Given as goal
 
 -- the passes that are left lead from the stage in hand to where relaxation ends
 abbrev pub invariant-loop-pass : goal.invariant-loop-pass
-invariant-loop-pass g l = (filling : Filling) (is : IsStage (relaxing (g.P.Platform.segment_start l.platform) l.headers (in_output l.link l.live filling)) l.fn.hand)
-    → IsFirst (relaxing (g.P.Platform.segment_start l.platform) l.headers (in_output l.link l.live filling)) (stage_in l.fn.hand is)
-    → IsInHand (relaxing (g.P.Platform.segment_start l.platform) l.headers (in_output l.link l.live filling)) (5 - l._pass) l.hand
+invariant-loop-pass g l = (filling : Filling) (is : IsStage (relaxing (g.P.Platform.segment_start l.by.platform.now) l.by.headers (in_output l.by.link.now l.by.live.now filling)) l.fn.hand)
+    → IsFirst (relaxing (g.P.Platform.segment_start l.by.platform.now) l.by.headers (in_output l.by.link.now l.by.live.now filling)) (stage_in l.fn.hand is)
+    → IsInHand (relaxing (g.P.Platform.segment_start l.by.platform.now) l.by.headers (in_output l.by.link.now l.by.live.now filling)) (5 - l._pass) l.hand

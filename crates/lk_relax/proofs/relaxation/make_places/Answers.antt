@@ -12,18 +12,18 @@ use Rattle.lk_relax.proofs.relaxation.make_places.Goals as goal
 
 pub compute_input_section_positions-requires-clause-filled : goal.compute_input_section_positions-requires-clause-filled
 compute_input_section_positions-requires-clause-filled g c =
-    let by : Relaxing = relaxing (g.P.Platform.segment_start c.args.platform.now) c.args.headers (in_output c.args.link.now c.args.live.now c.requires.filled.0) in
+    let by : Relaxing = relaxing (g.P.Platform.segment_start c.args.by.now.platform.now) c.args.by.now.headers (in_output c.args.by.now.link.now c.args.by.now.live.now c.requires.filled.0) in
     (filling_after by c.args.deltas.now, c.requires.filled.1)
 
 pub compute_layout_sections-requires-clause-each : goal.compute_layout_sections-requires-clause-each
 compute_layout_sections-requires-clause-each g c =
-    let by : Relaxing = relaxing (g.P.Platform.segment_start c.args.platform.now) c.args.headers (in_output c.args.link.now c.args.live.now c.requires.filled.0) in
+    let by : Relaxing = relaxing (g.P.Platform.segment_start c.args.by.now.platform.now) c.args.by.now.headers (in_output c.args.by.now.link.now c.args.by.now.live.now c.requires.filled.0) in
     let filling : Filling = filling_after by c.args.deltas.now in
     ap length (c.deref.ensures.value ∙ c.in_ok-sizes.ensures.sizes filling c.requires.filled.1.contents) ∙ length-part_sizes filling
 
 pub returns-in_err-placed : goal.returns-in_err-placed
 returns-in_err-placed g c = λ found h.
-    let by : Relaxing = relaxing (g.P.Platform.segment_start c.args.platform.now) c.args.headers (in_output c.args.link.now c.args.live.now found) in
+    let by : Relaxing = relaxing (g.P.Platform.segment_start c.args.by.now.platform.now) c.args.by.now.headers (in_output c.args.by.now.link.now c.args.by.now.live.now found) in
     let deltas = c.args.deltas.now in
     let filling : Filling = filling_after by deltas in
     let is = setting_is by deltas c.deref.result.now c.in_ok-sizes.sizes.items c.in_ok-sections.symbols c.in_ok-sections.sections.items c.deref.ensures.value (c.in_ok-sizes.ensures.sizes filling h.contents) (c.in_ok-sections.ensures.sections filling h) c.in_ok-sections.ensures.symbols in
@@ -33,7 +33,7 @@ returns-in_err-placed g c = λ found h.
 
 pub returns : goal.returns
 returns g c = λ found h.
-    let by : Relaxing = relaxing (g.P.Platform.segment_start c.args.platform.now) c.args.headers (in_output c.args.link.now c.args.live.now found) in
+    let by : Relaxing = relaxing (g.P.Platform.segment_start c.args.by.now.platform.now) c.args.by.now.headers (in_output c.args.by.now.link.now c.args.by.now.live.now found) in
     let deltas = c.args.deltas.now in
     let filling : Filling = filling_after by deltas in
     let is = setting_is by deltas c.deref.result.now c.in_ok-sizes.sizes.items c.in_ok-sections.symbols c.in_ok-sections.sections.items c.deref.ensures.value (c.in_ok-sizes.ensures.sizes filling h.contents) (c.in_ok-sections.ensures.sections filling h) c.in_ok-sections.ensures.symbols in

@@ -1,5 +1,4 @@
-use Rattle.std.proofs.Common.{ℕ, ◌+◌, ◌<◌, ◌^◌, All, ap, subst, sym, ◌∙◌, arith, length}
-use Rattle.lk_link.specs.declared.relocation.RelaxCandidate.{RelaxCandidate}
+use Rattle.std.proofs.Common.{ap, sym, ◌∙◌, arith, length}
 use Rattle.lk_link.specs.declared.section.InputSection.{InputSection}
 use Rattle.lk_link.proofs.GoodInputs.{lists_of}
 use Rattle.lk_relax.specs.Scan.{told}

@@ -7,7 +7,7 @@ use Rattle.lk_relax.specs.declared.sites.RelaxedPlace.{RelaxedPlace}
 use Rattle.lk_relax.specs.ScanWords.{standing_of}
 use Rattle.lk_relax.specs.Sites.{file_past}
 use Rattle.lk_stops.proofs.Stopping.{exit, file_stops}
-use Rattle.lk_relax.proofs.sites.check_files.Goals as goal
+use Rattle.lk_relax.proofs.sites.check_sites.Goals as goal
 
 pub files-file-items-requires : goal.files-file-items-requires
 files-file-items-requires c = are_numbered c.args.by.link.now c.requires.good

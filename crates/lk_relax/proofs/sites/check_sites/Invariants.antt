@@ -3,7 +3,7 @@ use Rattle.std.specs.List.{flat_map}
 use Rattle.lk_link.specs.Walks.{file_of}
 use Rattle.lk_relax.specs.ScanWords.{standing_of}
 use Rattle.lk_relax.specs.Sites.{file_past}
-use Rattle.lk_relax.proofs.sites.check_files.Given as goal
+use Rattle.lk_relax.proofs.sites.check_sites.Given as goal
 
 -- no candidate of the files so far is past its limit
 abbrev pub invariant-loop-file : goal.invariant-loop-file
