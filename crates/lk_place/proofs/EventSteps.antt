@@ -30,6 +30,15 @@ steps_given None (Ok l) past left give y h = let both = given_unless (past left)
 steps_given None (Err r) past left give y h = absurd (cc)
 steps_given (Some r) load past left give y h = absurd (cc)
 
+-- and where none is, this is what it gives
+pub steps_made : {X : Type 0} (o : Option Refusal) (load : Result (Option ℕ) Refusal) (past : Cursors → Option Refusal) (left : Cursors) (give : Cursors → Option ℕ → X) (l : Option ℕ)
+    → o ≡ None → load ≡ Ok l → past left ≡ None → (unless o left >>= λ to. load >>= λ m. unless (past to) (give to m)) ≡ Ok (give left l)
+steps_made None (Ok m) past left give l none given inside =
+    let same : m ≡ l = cc in
+    ap (λ (p : Option Refusal). unless p (give left m)) inside ∙ ap (λ (n : Option ℕ). Ok (give left n)) same
+steps_made None (Err r) past left give l none given inside = absurd (cc)
+steps_made (Some r) load past left give l none given inside = absurd (cc)
+
 -- the cursors and the records that a section gives
 abbrev pub section_gives : Setting → PlacedRecords → ℕ → Cursors → Cursors × List Record
 section_gives setting standing s from = (section_left setting s from, loaded_records setting standing s from)

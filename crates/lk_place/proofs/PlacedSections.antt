@@ -206,7 +206,16 @@ loaded_there setting s begin p =
     let rest : Record = resting (first_record setting s begin) (part_at setting.plan.sections p).alignment in
     elim (is_walked setting s p) as (λ b. unloaded (cond b placed rest) ≡ cond b placed rest) [ true ↦ refl | false ↦ refl ]
 
--- a record that is loaded from an address is, but for that, the one without
+-- a record that is loaded from an address is the one without, loaded from it
+pub loaded_is : (load : Option ℕ) (r x : Record) → unloaded r ≡ x → r.lma_offset ≡ unwrap_or load r.mem_offset → r ≡ loaded_by load x
+loaded_is None r x is at =
+    let same : r ≡ unloaded r = λ i. record r { lma_offset = at i } in
+    same ∙ is
+loaded_is (Some address) r x is at =
+    let same : r ≡ record r { lma_offset = address } = λ i. record r { lma_offset = at i } in
+    same ∙ ap (loaded_by (Some address)) is
+
+-- and the other way
 pub unloaded_is : (load : Option ℕ) (r x : Record) → unloaded x ≡ x → r ≡ loaded_by load x → unloaded r ≡ x
 unloaded_is None r x there is = ap unloaded is ∙ there
 unloaded_is (Some address) r x there is = ap unloaded is ∙ there

@@ -18,9 +18,10 @@ pub fn placement_is_one()
     ensures { PlacementIsOne }
 {}
 
-/// A law: each event before the last state moves the cursors, and then places its section, if it has one: walked parts stand one
-/// behind the other, each at the least multiple of its alignment at or above the offsets, the others rest where the first walked one
-/// starts, all end below 2^64 and inside the section's region, and are loaded from its load address, or from where they stand.
+/// A law: cursors and records are what an event gives exactly where it moves the cursors and then places its section, if it has one:
+/// walked parts stand one behind the other, each at the least multiple of its alignment at or above the offsets, the others rest
+/// where the first walked one starts, all end below 2^64 and inside the section's region, and are loaded from its load address, or
+/// from where they stand.
 pub fn events_are_carried_out()
     ensures { EventsAreCarriedOut }
 {}
