@@ -1,4 +1,4 @@
--- What the code knows when it evaluates expressions, as definitions see it. Contracts of private functions speak of it.
+-- What the code knows when it evaluates expressions, as definitions see it.
 use Rattle.std.specs.Prelude.{ℕ, Option}
 use Rattle.lk_expressions.specs.declared.constants.BeforeAll.{BeforeAll}
 use Rattle.lk_expressions.specs.declared.early.EarlySurroundings.{EarlySurroundings}

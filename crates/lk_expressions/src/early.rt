@@ -2,33 +2,33 @@
 
 ghost use Rattle.std.specs.Prelude.{◌≡◌};
 ghost use Rattle.lk_expressions.specs.KnownThen.{early_of};
-ghost use Rattle.lk_expressions.specs.Expressions.{IsShallow, expression_value};
-ghost use Rattle.lk_expressions.specs.Surroundings.{by_definition, early_operand, early_symbol, symbol_value};
+ghost use Rattle.lk_expressions.specs.Surroundings.{by_definition, early_symbol, symbol_value};
 
-use crate::evaluation::{Surroundings, evaluate};
+use crate::evaluation::Surroundings;
 use crate::known::{item, length, origin, size_of, start_of};
 use crate::no_value::NoValue;
 use crate::placed::PlacedRecords;
 use crate::positions::SymbolPositions;
-use lk_link::expression::{Expression, Operand};
+use lk_link::expression::Operand;
 use lk_link::ids::{OutputSectionId, SymbolId};
 use lk_link::link::LinkInput;
 use lk_link::symbol::SymbolPlacement;
 
 /// What is known while sections are placed.
 #[derive(Drop)]
-pub(crate) struct EarlySurroundings<'a, R: PlacedRecords> {
-    pub(crate) link: &'a LinkInput,
+pub struct EarlySurroundings<'a, R: PlacedRecords> {
+    pub link: &'a LinkInput,
     /// The location counter.
-    pub(crate) dot: u64,
-    pub(crate) headers: u64,
+    pub dot: u64,
+    /// The bytes of the headers.
+    pub headers: u64,
     /// Origin and length of each region.
-    pub(crate) regions: &'a [(u64, u64)],
+    pub regions: &'a [(u64, u64)],
     /// By symbol: what constant redirects are worth.
-    pub(crate) constants: &'a [Option<Result<u64, NoValue>>],
+    pub constants: &'a [Option<Result<u64, NoValue>>],
     /// What is placed.
-    pub(crate) records: &'a R,
-    pub(crate) positions: &'a SymbolPositions,
+    pub records: &'a R,
+    pub positions: &'a SymbolPositions,
 }
 
 impl<R: PlacedRecords> EarlySurroundings<'_, R> {
@@ -113,41 +113,4 @@ impl<R: PlacedRecords> Surroundings for EarlySurroundings<'_, R> {
             Operand::SizeOfHeaders => Ok(self.headers),
         }
     }
-}
-
-/// The value of an expression while sections are placed, by the records that are found of what is placed. `dot` is where the location
-/// counter is, `headers` the bytes of the headers. `regions` has the origin and the length of each region, `constants` what each symbol
-/// is worth that is a constant redirect. Takes time for each token.
-pub fn evaluate_early<R: PlacedRecords>(
-    link: &LinkInput,
-    expression: &Expression,
-    dot: u64,
-    headers: u64,
-    regions: &[(u64, u64)],
-    constants: &[Option<Result<u64, NoValue>>],
-    records: &R,
-    positions: &SymbolPositions,
-) -> Result<u64, NoValue>
-    requires { IsShallow expression.now }
-    ensures { result ≡ expression_value (early_operand (record {
-      groups = link.now.groups;
-      dot = dot;
-      headers = headers;
-      regions = regions.now;
-      constants = constants.now;
-      section = R.section_of records.now;
-      part = R.part_of records.now;
-      positions = positions.now;
-    })) expression.now }
-{
-    let known = EarlySurroundings {
-        link,
-        dot,
-        headers,
-        regions,
-        constants,
-        records,
-        positions,
-    };
-    evaluate(&known, expression)
 }

@@ -17,8 +17,8 @@ pub trait KnownValues {
 
 /// Values that are given by symbol, none where there is none so far.
 #[derive(Drop)]
-pub(crate) struct GivenValues<'a> {
-    pub(crate) values: &'a [Option<u64>],
+pub struct GivenValues<'a> {
+    pub values: &'a [Option<u64>],
 }
 
 impl KnownValues for GivenValues<'_> {

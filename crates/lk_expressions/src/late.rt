@@ -1,33 +1,34 @@
 //! Expressions when all is placed.
 
 ghost use Rattle.std.specs.Prelude.{◌≡◌};
-ghost use Rattle.lk_expressions.specs.Expressions.{IsShallow, expression_value};
 ghost use Rattle.lk_expressions.specs.KnownThen.{late_of};
-ghost use Rattle.lk_expressions.specs.Surroundings.{by_definition, late_operand, late_symbol, symbol_value};
+ghost use Rattle.lk_expressions.specs.Surroundings.{by_definition, late_symbol, symbol_value};
 
-use crate::evaluation::{Surroundings, evaluate};
+use crate::evaluation::Surroundings;
 use crate::known::{length, origin, size_of, start_of};
 use crate::known_values::KnownValues;
 use crate::no_value::NoValue;
 use crate::record::OutputRecordLayout;
-use lk_link::expression::{Expression, Operand};
+use lk_link::expression::Operand;
 use lk_link::ids::{OutputSectionId, SymbolId};
 use lk_link::link::LinkInput;
 
 /// What is known when all is placed.
 #[derive(Drop)]
-pub(crate) struct LateSurroundings<'a, V: KnownValues> {
-    pub(crate) link: &'a LinkInput,
+pub struct LateSurroundings<'a, V: KnownValues> {
+    pub link: &'a LinkInput,
     /// The redirect whose expression it is.
-    pub(crate) own: SymbolId,
+    pub own: SymbolId,
     /// Where the location counter is, if it is anywhere.
-    pub(crate) dot: Option<u64>,
-    pub(crate) headers: u64,
+    pub dot: Option<u64>,
+    /// The bytes of the headers.
+    pub headers: u64,
     /// Origin and length of each region.
-    pub(crate) regions: &'a [(u64, u64)],
-    pub(crate) sections: &'a [OutputRecordLayout],
+    pub regions: &'a [(u64, u64)],
+    /// The records of sections.
+    pub sections: &'a [OutputRecordLayout],
     /// The values of symbols so far.
-    pub(crate) values: &'a V,
+    pub values: &'a V,
 }
 
 impl<V: KnownValues> LateSurroundings<'_, V> {
@@ -93,40 +94,4 @@ impl<V: KnownValues> Surroundings for LateSurroundings<'_, V> {
             Operand::SizeOfHeaders => Ok(self.headers),
         }
     }
-}
-
-/// The value of the expression of the redirect `own` when all is placed, by the values that are found of symbols. `dot` is where the
-/// location counter is, none where it is nowhere; `headers` the bytes of the headers; `regions` has the origin and the length of each
-/// region; `sections` the records of sections. Takes time for each token.
-pub fn evaluate_late<V: KnownValues>(
-    link: &LinkInput,
-    expression: &Expression,
-    own: SymbolId,
-    dot: Option<u64>,
-    headers: u64,
-    regions: &[(u64, u64)],
-    sections: &[OutputRecordLayout],
-    values: &V,
-) -> Result<u64, NoValue>
-    requires { IsShallow expression.now }
-    ensures { result ≡ expression_value (late_operand (record {
-      groups = link.now.groups;
-      own = own;
-      dot = dot;
-      headers = headers;
-      regions = regions.now;
-      sections = sections.now;
-      values = V.value_of values.now;
-    })) expression.now }
-{
-    let known = LateSurroundings {
-        link,
-        own,
-        dot,
-        headers,
-        regions,
-        sections,
-        values,
-    };
-    evaluate(&known, expression)
 }

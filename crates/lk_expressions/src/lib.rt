@@ -19,12 +19,12 @@ mod stack;
 mod values;
 
 pub use crate::constants::{Constant, constant_redirects};
-pub use crate::early::evaluate_early;
-pub use crate::known_values::KnownValues;
-pub use crate::late::evaluate_late;
+pub use crate::early::EarlySurroundings;
+pub use crate::known_values::{GivenValues, KnownValues};
+pub use crate::late::LateSurroundings;
 pub use crate::named::names_no_symbol;
 pub use crate::no_value::NoValue;
-pub use crate::placed::PlacedRecords;
+pub use crate::placed::{GivenRecords, PlacedRecords};
 pub use crate::positions::{SymbolPosition, SymbolPositions};
 pub use crate::record::OutputRecordLayout;
 pub use crate::values::{evaluate_const, evaluate_early_expression, evaluate_expression};

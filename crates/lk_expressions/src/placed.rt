@@ -25,9 +25,9 @@ pub trait PlacedRecords {
 
 /// Records that are given, none where not placed.
 #[derive(Drop)]
-pub(crate) struct GivenRecords<'a> {
-    pub(crate) sections: &'a [Option<OutputRecordLayout>],
-    pub(crate) parts: &'a [Option<OutputRecordLayout>],
+pub struct GivenRecords<'a> {
+    pub sections: &'a [Option<OutputRecordLayout>],
+    pub parts: &'a [Option<OutputRecordLayout>],
 }
 
 impl PlacedRecords for GivenRecords<'_> {

@@ -18,7 +18,7 @@ ghost use Rattle.lk_own_symbols.specs.Redirects.{redirect_of, redirect_value, re
 use crate::placed_link::PlacedLink;
 use crate::symbol_values::SymbolValues;
 use crate::values_before::ValuesBefore;
-use lk_expressions::{KnownValues, evaluate_late};
+use lk_expressions::{KnownValues, LateSurroundings, evaluate_expression};
 use lk_link::{
     Expression, FileKind, InputFile, InputSymbol, LinkInput, Place, SymbolId, SymbolLoc,
     SymbolPlacement,
@@ -136,16 +136,16 @@ fn redirect_value<V: KnownValues>(
         own: redirect.symbol,
         values,
     };
-    evaluate_late(
-        placed.link,
-        redirect.expression,
-        redirect.symbol,
+    let known = LateSurroundings {
+        link: placed.link,
+        own: redirect.symbol,
         dot,
-        placed.headers,
-        placed.regions,
-        records,
-        &before,
-    )
+        headers: placed.headers,
+        regions: placed.regions,
+        sections: records,
+        values: &before,
+    };
+    evaluate_expression(&known, redirect.expression)
 }
 
 /// Sets the value that a redirect comes to, unless it is left out.

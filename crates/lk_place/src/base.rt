@@ -9,7 +9,9 @@ ghost use Rattle.lk_expressions.specs.Expressions.{IsShallow, expression_value};
 ghost use Rattle.lk_expressions.specs.Surroundings.{early_operand};
 
 use crate::error::PlaceError;
-use lk_expressions::{NoValue, SymbolPositions, evaluate_early_expression};
+use lk_expressions::{
+    EarlySurroundings, GivenRecords, NoValue, SymbolPositions, evaluate_early_expression,
+};
 use lk_link::fault::Place;
 use lk_link::link::LinkInput;
 use lk_link::list::List;
@@ -57,17 +59,20 @@ pub(crate) fn base_value(
     ensures { result ≡ expression_value (early_operand (known_first link.now.groups headers regions.now constants.now)) link.now.plan.base }
 {
     let nowhere = SymbolPositions::new(List::new(alloc));
-    evaluate_early_expression(
+    let nothing = GivenRecords {
+        sections: &[],
+        parts: &[],
+    };
+    let known = EarlySurroundings {
         link,
-        &link.plan.base,
-        0,
+        dot: 0,
         headers,
         regions,
         constants,
-        &[],
-        &[],
-        &nowhere,
-    )
+        records: &nothing,
+        positions: &nowhere,
+    };
+    evaluate_early_expression(&known, &link.plan.base)
 }
 
 /// The address at which memory begins, by the plan's base and the bytes of the headers. `regions` has the origin and the length of

@@ -37,6 +37,7 @@ pub use crate::segments::{
 };
 pub use crate::walk::{Placed, compute_layout_sections};
 pub use lk_expressions::{
-    Constant, NoValue, OutputRecordLayout, SymbolPosition, SymbolPositions, constant_redirects,
-    evaluate_const, evaluate_early_expression, evaluate_expression, names_no_symbol,
+    Constant, EarlySurroundings, GivenRecords, GivenValues, LateSurroundings, NoValue,
+    OutputRecordLayout, SymbolPosition, SymbolPositions, constant_redirects, evaluate_const,
+    evaluate_early_expression, evaluate_expression, names_no_symbol,
 };

@@ -6,7 +6,9 @@ ghost use Rattle.lk_expressions.specs.Surroundings.{early_operand};
 ghost use Rattle.lk_place.specs.Tables.{part_before, section_before};
 
 use crate::records_before::RecordsBefore;
-use lk_expressions::{Constant, NoValue, SymbolPositions, evaluate_early};
+use lk_expressions::{
+    Constant, EarlySurroundings, NoValue, SymbolPositions, evaluate_early_expression,
+};
 use lk_link::expression::Expression;
 use lk_link::link::LinkInput;
 
@@ -42,14 +44,14 @@ pub(crate) fn evaluate_before(
       positions = unplaced.now.positions.now;
     })) expression.now }
 {
-    evaluate_early(
-        unplaced.link,
-        expression,
+    let known = EarlySurroundings {
+        link: unplaced.link,
         dot,
-        unplaced.headers,
-        unplaced.regions,
-        unplaced.constants,
-        before,
-        unplaced.positions,
-    )
+        headers: unplaced.headers,
+        regions: unplaced.regions,
+        constants: unplaced.constants,
+        records: before,
+        positions: unplaced.positions,
+    };
+    evaluate_early_expression(&known, expression)
 }

@@ -11,9 +11,9 @@ use lk_check::check_link;
 use lk_link::{Alignment, LinkInput, List, PartId, SymbolId};
 use lk_place::laws::expressions_are_shallow;
 use lk_place::{
-    Constant, OutputRecordLayout, SymbolPosition, SymbolPositions, constant_redirects,
-    evaluate_const, evaluate_early_expression, evaluate_expression, evaluate_regions, first_memory,
-    is_plain,
+    Constant, EarlySurroundings, GivenRecords, GivenValues, LateSurroundings, OutputRecordLayout,
+    SymbolPosition, SymbolPositions, constant_redirects, evaluate_const, evaluate_early_expression,
+    evaluate_expression, evaluate_regions, first_memory, is_plain,
 };
 use lk_test_rows::add;
 use std::alloc::{AllocError, Global};
@@ -196,17 +196,20 @@ fn add_early(
         Some(record_of(18446744073709551615, 0)),
         None,
     ];
-    let value = evaluate_early_expression(
+    let records = GivenRecords {
+        sections: &placed,
+        parts: &placed,
+    };
+    let known = EarlySurroundings {
         link,
-        &link.plan.base,
-        48,
-        120,
-        REGIONS,
+        dot: 48,
+        headers: 120,
+        regions: REGIONS,
         constants,
-        &placed,
-        &placed,
+        records: &records,
         positions,
-    );
+    };
+    let value = evaluate_early_expression(&known, &link.plan.base);
     add(line, "early", &value)
 }
 
@@ -225,9 +228,17 @@ fn add_late(
         record_of(18446744073709551615, 0),
         record_of(0, 18446744073709551615),
     ];
-    let own = SymbolId::from_u32(2);
-    let base = &link.plan.base;
-    let value = evaluate_expression(link, base, own, dot, 120, REGIONS, &sections, values);
+    let given = GivenValues { values };
+    let known = LateSurroundings {
+        link,
+        own: SymbolId::from_u32(2),
+        dot,
+        headers: 120,
+        regions: REGIONS,
+        sections: &sections,
+        values: &given,
+    };
+    let value = evaluate_expression(&known, &link.plan.base);
     add(line, word, &value)
 }
 
