@@ -33,7 +33,7 @@ use lk_place::{
 };
 use lk_relax::laws::{nothing_is_past, relaxed_is_shrunk, relaxed_stands, shrunk_can_be_scanned};
 use lk_relax::{
-    Relaxation, Standing, check_sites, compute_input_section_positions, is_nothing_deleted,
+    Relaxation, StandingLink, check_sites, compute_input_section_positions, is_nothing_deleted,
     place_first, relax_owners,
 };
 use lk_resolution_list::SymbolResolutions;
@@ -425,7 +425,7 @@ impl<'a, 'data, P: Platform, A: Arch> Finds<'data> for Job<'a, 'data, P, A> {
             alloc, link, live, owners, deltas,
         )?;
         let parts = placed.records.parts.as_slice();
-        check_sites(Standing {
+        check_sites(StandingLink {
             link,
             live,
             sections: &sections,

@@ -52,7 +52,7 @@ struct Level<'a> {
 
 /// A unit that asks, or roots.
 #[derive(Clone, Copy)]
-struct Asker<'a> {
+struct AskingUnit<'a> {
     link: &'a LinkInput,
     /// The unit's number, and 0 for roots.
     number: u32,
@@ -150,7 +150,7 @@ impl Search {
             (Takes (asking link.now) 1 (with_asker 0 (file_roots link.now (file_of file.entry))) self.old self.new
             × (located.new ≡ true → AreFound link.now self.new (location_asks link.now))) }
     {
-        let root = Asker {
+        let root = AskingUnit {
             link,
             number: 0,
             distance: 1,
@@ -179,7 +179,7 @@ impl Search {
         requires located { AreFound link.now self.old (location_asks link.now) }
         ensures { OnOk result (Takes (asking link.now) 1 (with_asker 0 (file_roots link.now (file_of file.entry))) self.old self.new) }
     {
-        let root = Asker {
+        let root = AskingUnit {
             link,
             number: 0,
             distance: 1,
@@ -212,7 +212,7 @@ impl Search {
         for place in level.start..end {
             let number = self.found[place];
             if let Some(unit) = unit_at(level.link, level.files, number as usize) {
-                let asker = Asker {
+                let asker = AskingUnit {
                     link: level.link,
                     number,
                     distance: level.distance,
@@ -226,7 +226,7 @@ impl Search {
     /// Takes what a unit asks for that is found itself. `shared` has what was taken of that for which others ask as well.
     fn take_unit(
         &mut self,
-        asker: Asker<'_>,
+        asker: AskingUnit<'_>,
         unit: Unit,
         shared: &mut Shared,
     ) -> Result<(), AllocError>
@@ -256,7 +256,7 @@ impl Search {
     /// Takes what a symbol asks for, unless that was taken.
     fn take_symbol(
         &mut self,
-        asker: Asker<'_>,
+        asker: AskingUnit<'_>,
         symbol: SymbolId,
         shared: &mut Shared,
     ) -> Result<(), AllocError>
@@ -280,7 +280,7 @@ impl Search {
     /// Takes what a section asks for that is found itself.
     fn take_section(
         &mut self,
-        asker: Asker<'_>,
+        asker: AskingUnit<'_>,
         file: FileId,
         index: u32,
         shared: &mut Shared,
@@ -309,7 +309,7 @@ impl Search {
     /// group stands.
     fn take_member(
         &mut self,
-        asker: Asker<'_>,
+        asker: AskingUnit<'_>,
         section: (FileId, u32),
         place: usize,
         shared: &mut Shared,
@@ -340,7 +340,7 @@ impl Search {
     /// Takes what a section asks for by its relocations.
     fn take_references(
         &mut self,
-        asker: Asker<'_>,
+        asker: AskingUnit<'_>,
         id: FileId,
         index: u32,
     ) -> Result<(), AllocError>
@@ -359,7 +359,7 @@ impl Search {
     /// Takes what relocations refer to.
     fn take_relocations(
         &mut self,
-        asker: Asker<'_>,
+        asker: AskingUnit<'_>,
         references: References<'_>,
     ) -> Result<(), AllocError>
         requires well_formed { IsWellFormed asker.link.now }
@@ -379,7 +379,7 @@ impl Search {
     }
 
     /// Takes what a unit asks for.
-    fn take_all(&mut self, asker: Asker<'_>, asks: Successors<'_>) -> Result<(), AllocError>
+    fn take_all(&mut self, asker: AskingUnit<'_>, asks: Successors<'_>) -> Result<(), AllocError>
         requires well_formed { IsWellFormed asker.link.now }
         requires inside { All (IsInside asker.link.now.groups) asks }
         requires sized { IsSized (asking asker.link.now) self.old }
@@ -394,7 +394,7 @@ impl Search {
     }
 
     /// Takes an ask of a unit; no asker so far is greater.
-    fn take(&mut self, asker: Asker<'_>, ask: Ask) -> Result<(), AllocError>
+    fn take(&mut self, asker: AskingUnit<'_>, ask: Ask) -> Result<(), AllocError>
         requires well_formed { IsWellFormed asker.link.now }
         requires inside { IsInside asker.link.now.groups ask }
         requires sized { IsSized (asking asker.link.now) self.old }

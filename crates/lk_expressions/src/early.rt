@@ -17,17 +17,19 @@ use lk_link::symbol::SymbolPlacement;
 /// What is known while sections are placed.
 #[derive(Drop)]
 pub struct EarlySurroundings<'a, R: PlacedRecords> {
+    /// The link whose plan has the expression.
     pub link: &'a LinkInput,
     /// The location counter.
     pub dot: u64,
     /// The bytes of the headers.
     pub headers: u64,
-    /// Origin and length of each region.
+    /// Origin and length in bytes of each region, by number.
     pub regions: &'a [(u64, u64)],
     /// By symbol: what constant redirects are worth.
     pub constants: &'a [Option<Result<u64, NoValue>>],
     /// What is placed.
     pub records: &'a R,
+    /// Where symbols stand in their parts.
     pub positions: &'a SymbolPositions,
 }
 

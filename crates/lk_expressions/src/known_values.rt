@@ -18,6 +18,7 @@ pub trait KnownValues {
 /// Values that are given by symbol, none where there is none so far.
 #[derive(Drop)]
 pub struct GivenValues<'a> {
+    /// The value of each symbol, by number, if it has one.
     pub values: &'a [Option<u64>],
 }
 

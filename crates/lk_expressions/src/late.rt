@@ -16,6 +16,7 @@ use lk_link::link::LinkInput;
 /// What is known when all is placed.
 #[derive(Drop)]
 pub struct LateSurroundings<'a, V: KnownValues> {
+    /// The link that it stands in.
     pub link: &'a LinkInput,
     /// The redirect whose expression it is.
     pub own: SymbolId,
@@ -23,7 +24,7 @@ pub struct LateSurroundings<'a, V: KnownValues> {
     pub dot: Option<u64>,
     /// The bytes of the headers.
     pub headers: u64,
-    /// Origin and length of each region.
+    /// Origin and length in bytes of each region, by number.
     pub regions: &'a [(u64, u64)],
     /// The records of sections.
     pub sections: &'a [OutputRecordLayout],

@@ -26,7 +26,9 @@ pub trait PlacedRecords {
 /// Records that are given, none where not placed.
 #[derive(Drop)]
 pub struct GivenRecords<'a> {
+    /// Of each output section, by number, its record, if it is placed.
     pub sections: &'a [Option<OutputRecordLayout>],
+    /// Of each part, by number over all sections, its record, if it is placed.
     pub parts: &'a [Option<OutputRecordLayout>],
 }
 

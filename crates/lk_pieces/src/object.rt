@@ -190,7 +190,7 @@ fn read_alone<T: Element, M: Others>(
 
 /// An object in pieces that are shared out: the caller reads the first ones and the last.
 #[derive(Clone, Copy)]
-struct SharedObject<'a> {
+struct DividedObject<'a> {
     first: &'a [u8],
     /// The pieces behind the first that the caller reads too.
     near: &'a [&'a [u8]],
@@ -203,7 +203,7 @@ struct SharedObject<'a> {
 fn read_beside<T: Element + Send, M: Others, R: Threads + Sync>(
     rt: &R,
     alloc: Global,
-    object: SharedObject<'_>,
+    object: DividedObject<'_>,
     key: &str,
     workers: usize,
 ) -> Option<(Vec<Row<T::Item>>, M)>
@@ -211,7 +211,7 @@ fn read_beside<T: Element + Send, M: Others, R: Threads + Sync>(
     ensures { IfSome result (λ r. HoldsList T.described key.now
         (joined (object.entry.first.now ∷ (bytes_of object.entry.near.now ++ bytes_of object.entry.far.now)) object.entry.last.now) r.0.items (M.members r.1)) }
 {
-    let SharedObject {
+    let DividedObject {
         first,
         near,
         far,
@@ -284,7 +284,7 @@ pub fn read_object_by_workers<T: Element + Send, M: Others, G: Guess, R: Threads
         return read_alone::<T, _>(alloc, first, pieces, last, key);
     }
     let others = workers.saturating_sub(1).min(far.len()).max(1);
-    let object = SharedObject {
+    let object = DividedObject {
         first,
         near,
         far,

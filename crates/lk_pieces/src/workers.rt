@@ -35,7 +35,7 @@ fn share<'a, 'b>(pieces: &'b [&'a [u8]], size: usize, worker: usize) -> &'b [&'a
 
 /// Pieces that workers share.
 #[derive(Clone, Copy)]
-struct Shares<'a> {
+struct SharedPieces<'a> {
     pieces: &'a [&'a [u8]],
     /// How deep their items may nest.
     depth: usize,
@@ -46,7 +46,7 @@ struct Shares<'a> {
 /// What a worker reads of its pieces.
 fn read_share<T: Element>(
     alloc: Global,
-    shares: &Shares<'_>,
+    shares: &SharedPieces<'_>,
     worker: usize,
 ) -> Option<Part<T::Item>>
     ensures { ReadsShare T.described shares.now.depth shares.now.size shares.now.pieces.now worker result }
@@ -67,7 +67,7 @@ fn read_share<T: Element>(
 fn read_each<T: Element + Send, R: Threads + Sync>(
     rt: &R,
     alloc: Global,
-    shares: &Shares<'_>,
+    shares: &SharedPieces<'_>,
     workers: usize,
 ) -> Result<Vec<Option<Part<T::Item>>>, AllocError>
     ensures count { IfOk result (λ answers. vec_len answers ≡ workers) }
@@ -96,7 +96,7 @@ pub(crate) fn read_shares<T: Element + Send, R: Threads + Sync>(
 {
     let size = share_size(pieces.len(), workers).max(1);
     let sharers = share_size(pieces.len(), size);
-    let shares = Shares {
+    let shares = SharedPieces {
         pieces,
         depth,
         size,

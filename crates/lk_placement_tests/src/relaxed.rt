@@ -24,8 +24,8 @@ use lk_link::{FileId, LinkInput, PartId, PlanPart, Platform, Section, Small64, S
 use lk_live::{Live, traverse_alone};
 use lk_place::{PlaceError, Placed};
 use lk_relax::{
-    Relaxation, Relaxed, Standing, compute_input_section_positions, perform_iterative_relaxation,
-    place_first, relaxation_scan_pass,
+    Relaxation, Relaxed, StandingLink, compute_input_section_positions,
+    perform_iterative_relaxation, place_first, relaxation_scan_pass,
 };
 use lk_sizes::{PartOwners, SizeError, plain_owners};
 use lk_test_rows::add;
@@ -217,7 +217,7 @@ fn add_scanned(
     if !section.slot.is_regular() {
         return Ok(());
     }
-    let before = Standing {
+    let before = StandingLink {
         link: all.link,
         live: all.live,
         sections: all.sections,

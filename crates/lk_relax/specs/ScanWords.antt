@@ -11,7 +11,7 @@ use Rattle.lk_deltas.specs.declared.candidates.Outcome.{Outcome}
 use Rattle.lk_deltas.specs.declared.candidates.Outcome.TheVariants as outcome
 use Rattle.lk_deltas.specs.Deletions.{mapped_by}
 use Rattle.lk_relax.specs.declared.judge.SectionJudge.{SectionJudge}
-use Rattle.lk_relax.specs.declared.scan.Standing.{Standing}
+use Rattle.lk_relax.specs.declared.scan.StandingLink.{StandingLink}
 use Rattle.lk_relax.specs.Scan.{PassState, address_in, outcome_by, target}
 
 -- the address of a symbol by its number, by what is lent
@@ -39,8 +39,8 @@ pub record IsNumbered (j : SectionJudge) (c : RelaxCandidate) : Type 0 where
   pub own : symbol_at j.link.now.groups (j.first + c.symbol) ≡ slice_get j.own.now c.symbol
 
 -- how all stands, by what is lent
-abbrev pub standing_of : Standing → PassState
-standing_of s = record {
+abbrev pub pass_state_of : StandingLink → PassState
+pass_state_of s = record {
   link = s.link.now;
   live = s.live.now;
   sections = s.sections.now;

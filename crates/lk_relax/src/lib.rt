@@ -18,5 +18,5 @@ pub use crate::positions::compute_input_section_positions;
 pub use crate::relaxation::{
     Relaxation, Relaxed, RelaxedParts, perform_iterative_relaxation, relax_owners,
 };
-pub use crate::scan::{Standing, relaxation_scan_pass};
+pub use crate::scan::{StandingLink, relaxation_scan_pass};
 pub use crate::sites::{RelaxedPlace, check_sites, is_nothing_deleted};

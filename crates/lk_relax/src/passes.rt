@@ -19,7 +19,7 @@ ghost use Rattle.lk_relax.specs.Stages.{Relaxing, standing_at};
 
 use crate::deletions::sizes_after;
 use crate::laws;
-use crate::scan::{Standing, candidates_of, relaxation_scan_pass};
+use crate::scan::{StandingLink, candidates_of, relaxation_scan_pass};
 use lk_deltas::{RelaxDeltaMap, SectionRelaxDeltas};
 use lk_expressions::SymbolPositions;
 use lk_link::{FileId, InputSection, LinkInput, PartId, Section};
@@ -127,7 +127,7 @@ fn look(
     ensures { (by : Relaxing) (is : IsStage (for_link link.now live.now by) hand.now)
         → IfOk result (λ found. found.items ≡ map (scanned (standing_at (for_link link.now live.now by) (stage_in hand.now is))) hand.now.scan.items) }
 {
-    let before = Standing {
+    let before = StandingLink {
         link,
         live,
         sections: &hand.sections,

@@ -34,9 +34,13 @@ const PASSES: usize = 5;
 /// A link that is relaxed, what is live of it, the platform that it is for, and the bytes of the headers.
 #[derive(Drop)]
 pub struct Relaxation<'a, P> {
+    /// The link that is relaxed.
     pub link: &'a LinkInput,
+    /// What is live of it.
     pub live: &'a Live,
+    /// The platform that it is for.
     pub platform: &'a P,
+    /// The bytes of the headers of the file and of segments.
     pub headers: u64,
 }
 

@@ -10,7 +10,7 @@ ghost use Rattle.lk_link.specs.declared.relocation.RelaxCandidate.{RelaxCandidat
 ghost use Rattle.lk_link.specs.declared.section.InputSection.{InputSection};
 ghost use Rattle.lk_deltas.specs.LinkDeletions.{deleted_of};
 ghost use Rattle.lk_relax.specs.Scan.{CanBeScanned, candidates_of, scanned, told};
-ghost use Rattle.lk_relax.specs.ScanWords.{IsNumbered, judged, standing_of};
+ghost use Rattle.lk_relax.specs.ScanWords.{IsNumbered, judged, pass_state_of};
 
 use crate::judge::SectionJudge;
 use crate::positions::{first_number, position_at};
@@ -23,29 +23,33 @@ use std::alloc::{AllocError, Global};
 
 /// How all stands before a pass, or behind the last.
 #[derive(Clone, Copy)]
-pub struct Standing<'a> {
+pub struct StandingLink<'a> {
+    /// The link that is relaxed.
     pub link: &'a LinkInput,
+    /// What is live of it.
     pub live: &'a Live,
-    /// The positions of input sections, by number.
+    /// Of each input section, by its number over all files, its part and how many bytes behind the part's start it stands; none where it has no
+    /// position.
     pub sections: &'a [Option<(PartId, u64)>],
+    /// Where symbols stand.
     pub symbols: &'a SymbolPositions,
     /// The records of the parts.
     pub parts: &'a [OutputRecordLayout],
-    /// What is deleted of the sections of each file, by the file's number.
+    /// What is deleted of the sections of each file, by the file's number over all groups.
     pub deltas: &'a [RelaxDeltaMap],
 }
 
 /// For each of these sections of files what more is to be deleted of it, and by how many bytes the nearest candidate misses that doesn't
-/// go, if one does. All goes by the addresses before the pass. Takes time by the candidates of these sections, for each logarithmic in the files, and in what is deleted of its section
-/// (libwild: `relaxation_scan_pass`).
+/// go, if one does. All goes by the addresses before the pass. Takes time by the candidates of these sections, for each logarithmic in the
+/// files, and in what is deleted of its section (libwild: `relaxation_scan_pass`).
 pub fn relaxation_scan_pass(
     alloc: Global,
-    before: Standing<'_>,
+    before: StandingLink<'_>,
     scan: &[(FileId, u32)],
 ) -> Result<Vec<(FileId, u32, SectionRelaxDeltas, Option<u64>)>, AllocError>
     requires good { IsWellFormed before.link.now }
     requires scan { All (λ q. CanBeScanned before.link.now.groups before.deltas.now q.0 q.1) scan.now }
-    ensures { IfOk result (λ found. found.items ≡ map (scanned (standing_of before.entry)) scan.now) }
+    ensures { IfOk result (λ found. found.items ≡ map (scanned (pass_state_of before.entry)) scan.now) }
 {
     let mut found = Vec::with_capacity(alloc, scan.len())?;
     for section in scan {
@@ -58,13 +62,13 @@ pub fn relaxation_scan_pass(
 /// The same for one section.
 fn scan_section(
     alloc: Global,
-    before: Standing<'_>,
+    before: StandingLink<'_>,
     file: FileId,
     index: u32,
 ) -> Result<(FileId, u32, SectionRelaxDeltas, Option<u64>), AllocError>
     requires good { IsWellFormed before.link.now }
     requires there { CanBeScanned before.link.now.groups before.deltas.now file index }
-    ensures { IfOk result (λ found. found ≡ scanned (standing_of before.entry) (file, index)) }
+    ensures { IfOk result (λ found. found ≡ scanned (pass_state_of before.entry) (file, index)) }
 {
     laws::good_candidates_can_go();
     laws::picked_can_go();
@@ -76,10 +80,10 @@ fn scan_section(
 }
 
 /// What tells of the candidates of a section.
-pub(crate) fn judge_of<'a>(before: Standing<'a>, file: FileId, index: u32) -> SectionJudge<'a>
+pub(crate) fn judge_of<'a>(before: StandingLink<'a>, file: FileId, index: u32) -> SectionJudge<'a>
     requires good { IsWellFormed before.link.now }
     requires there { IsSome (file_in before.link.now.groups file) }
-    ensures tells { (c : RelaxCandidate) → judged result c ≡ told (standing_of before.entry) file index c }
+    ensures tells { (c : RelaxCandidate) → judged result c ≡ told (pass_state_of before.entry) file index c }
     ensures first { result.first ≡ first_symbol before.entry.link.now.groups file }
     ensures link { result.link.now ≡ before.entry.link.now }
     ensures own { (there : InputFile) → file_in before.entry.link.now.groups file ≡ Some there → result.own.now ≡ there.symbols }

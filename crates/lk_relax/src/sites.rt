@@ -12,11 +12,11 @@ ghost use Rattle.lk_link.specs.WellFormed.{IsWellFormed};
 ghost use Rattle.lk_deltas.specs.DeltaMaps.{deltas_at};
 ghost use Rattle.lk_deltas.specs.LinkDeletions.{deleted_of};
 ghost use Rattle.lk_relax.specs.Scan.{CanBeScanned};
-ghost use Rattle.lk_relax.specs.ScanWords.{standing_of};
+ghost use Rattle.lk_relax.specs.ScanWords.{pass_state_of};
 ghost use Rattle.lk_relax.specs.Sites.{CanAllBeScanned, file_past, is_nothing_deleted, past_limit, section_past};
 ghost use Rattle.lk_stops.specs.Stops.{StopsAtFirst};
 
-use crate::scan::{Standing, judge_of, relax_of};
+use crate::scan::{StandingLink, judge_of, relax_of};
 use lk_deltas::{RelaxDeltaMap, SectionRelaxDeltas, first_past, laws, map_of};
 use lk_expressions::{OutputRecordLayout, SymbolPositions};
 use lk_link::{FileId, FileRef, InputSection, LinkInput, PartId};
@@ -63,10 +63,10 @@ pub fn is_nothing_deleted(deltas: &[RelaxDeltaMap]) -> bool
 /// be. All goes by final addresses. Looks at the sections of files of which something is deleted, and there at the candidates of sections
 /// of which something is; takes no memory, and logarithmic time in the files, and in what is deleted of the section, for each candidate
 /// whose bytes are gone.
-pub fn check_sites(by: Standing<'_>) -> Result<(), RelaxedPlace>
+pub fn check_sites(by: StandingLink<'_>) -> Result<(), RelaxedPlace>
     requires good { IsWellFormed by.link.now }
     requires scanned { CanAllBeScanned by.link.now by.deltas.now }
-    ensures { StopsAtFirst (past_limit (standing_of by.entry)) result }
+    ensures { StopsAtFirst (past_limit (pass_state_of by.entry)) result }
 {
     for file in by.link.groups.files() {
         check_file(by, file)?;
@@ -75,11 +75,11 @@ pub fn check_sites(by: Standing<'_>) -> Result<(), RelaxedPlace>
 }
 
 /// Refuses the first candidate of a file that is past its limit.
-fn check_file(by: Standing<'_>, file: FileRef<'_>) -> Result<(), RelaxedPlace>
+fn check_file(by: StandingLink<'_>, file: FileRef<'_>) -> Result<(), RelaxedPlace>
     requires good { IsWellFormed by.link.now }
     requires scanned { CanAllBeScanned by.link.now by.deltas.now }
     requires there { file_in by.link.now.groups file.id ≡ Some file.file.now }
-    ensures { StopsAtFirst (file_past (standing_of by.entry) (file_of file.entry)) result }
+    ensures { StopsAtFirst (file_past (pass_state_of by.entry) (file_of file.entry)) result }
 {
     let Some(map) = map_of(by.link, by.deltas, file.id) else {
         return Ok(());
@@ -92,7 +92,7 @@ fn check_file(by: Standing<'_>, file: FileRef<'_>) -> Result<(), RelaxedPlace>
 
 /// Refuses the first candidate of a file's sections that is past its limit, by what is deleted of these.
 fn check_sections(
-    by: Standing<'_>,
+    by: StandingLink<'_>,
     file: FileRef<'_>,
     map: &RelaxDeltaMap,
 ) -> Result<(), RelaxedPlace>
@@ -100,7 +100,7 @@ fn check_sections(
     requires scanned { CanAllBeScanned by.link.now by.deltas.now }
     requires there { file_in by.link.now.groups file.id ≡ Some file.file.now }
     requires map { slice_get by.deltas.now (file_number by.link.now.groups file.id) ≡ Some map.now }
-    ensures { StopsAtFirst (file_past (standing_of by.entry) (file_of file.entry)) result }
+    ensures { StopsAtFirst (file_past (pass_state_of by.entry) (file_of file.entry)) result }
 {
     for (index, section) in file.file.sections.as_slice().iter().enumerate() {
         check_section(by, file, map, index as u32, section)?;
@@ -110,7 +110,7 @@ fn check_sections(
 
 /// Refuses the first candidate of a section that is past its limit, by what is deleted of the sections of its file.
 fn check_section(
-    by: Standing<'_>,
+    by: StandingLink<'_>,
     file: FileRef<'_>,
     map: &RelaxDeltaMap,
     index: u32,
@@ -121,7 +121,7 @@ fn check_section(
     requires there { file_in by.link.now.groups file.id ≡ Some file.file.now }
     requires map { slice_get by.deltas.now (file_number by.link.now.groups file.id) ≡ Some map.now }
     requires section { slice_get file.file.now.sections index ≡ Some section.now }
-    ensures { StopsAtFirst (section_past (standing_of by.entry) file.entry.id (index, section.now)) result }
+    ensures { StopsAtFirst (section_past (pass_state_of by.entry) file.entry.id (index, section.now)) result }
 {
     match map.get(index) {
         Some(deleted) => check_candidates(by, file.id, index, section, deleted),
@@ -131,7 +131,7 @@ fn check_section(
 
 /// Refuses the first candidate of a section that is past its limit, by what is deleted of the section.
 fn check_candidates(
-    by: Standing<'_>,
+    by: StandingLink<'_>,
     file: FileId,
     index: u32,
     section: &InputSection,
@@ -141,7 +141,7 @@ fn check_candidates(
     requires can { CanBeScanned by.link.now.groups by.deltas.now file index }
     requires section { option_and_then (λ f. slice_get f.sections index) (file_in by.link.now.groups file) ≡ Some section.now }
     requires deleted { deleted_of by.link.now.groups by.deltas.now file index ≡ Some deleted.now }
-    ensures { StopsAtFirst (section_past (standing_of by.entry) file (index, section.now)) result }
+    ensures { StopsAtFirst (section_past (pass_state_of by.entry) file (index, section.now)) result }
 {
     laws::good_candidates_can_go();
     let judge = judge_of(by, file, index);

@@ -9,10 +9,10 @@ ghost use Rattle.lk_layout.specs.Machines.{small64_machine};
 ghost use Rattle.lk_run.specs.Run.{IsAnswerToReading, TellsDefined, image_told};
 
 use crate::answer::{Answer, done_with, refused};
+use crate::caller::Caller;
 use crate::fault_texts::fault_text;
 use crate::inputs::{Reading, read_up, read_up_by_workers};
 use crate::laid_out::let_go;
-use crate::process::Process;
 use lk_compute::{compute, compute_alone};
 use lk_image::{ImageError, write_image};
 use lk_layout::laws::small64_machine_is_lawful;
@@ -64,23 +64,23 @@ fn answer_computed(
 
 /// The answer of `image N` to all bytes of the source, which are let go before anything is laid out, by the workers that it asks for.
 pub(crate) fn answer_image<R: Threads + Wait + Sync, G: Gate + Sync>(
-    process: &Process<'_, R, G>,
+    caller: &Caller<'_, R, G>,
     alloc: Global,
     workers: u8,
     bytes: Vec<u8>,
 ) -> Result<Answer, AllocError>
-    requires gate { 2 ≤ workers → G.may_enter process.now.gate.now }
+    requires gate { 2 ≤ workers → G.may_enter caller.now.gate.now }
     ensures { IfOk result (IsAnswerToReading (TellsDefined image_told) (reading_of bytes.items)) }
 {
-    let rt = process.rt;
+    let rt = caller.rt;
     match read_up_by_workers(rt, alloc, bytes, workers)? {
         Reading::Link(link) => {
             let workers = u32::from(workers);
-            let gate = process.gate;
+            let gate = caller.gate;
             let computed = compute(rt, alloc, &link, &Small64, &Small64Arch, workers, gate);
             let answer = answer_computed(alloc, &link, &computed);
-            let_go(computed, process.is_last);
-            let_go(link, process.is_last);
+            let_go(computed, caller.is_last);
+            let_go(link, caller.is_last);
             answer
         }
         Reading::Fault(answer) => Ok(answer),

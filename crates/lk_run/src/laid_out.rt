@@ -8,9 +8,9 @@ ghost use Rattle.lk_run.specs.Run.{IsAnswerToReading};
 ghost use Rattle.lk_run.specs.Steps.{IsMappedAnswer};
 
 use crate::answer::{Answer, done, refused};
+use crate::caller::Caller;
 use crate::fault_texts::fault_text;
 use crate::inputs::{Reading, read_up, read_up_by_workers};
-use crate::process::Process;
 use lk_compute::{compute, compute_alone};
 use lk_layout::laws::{laid_out_links_are_well_formed, small64_machine_is_lawful};
 use lk_layout::{Layout, LayoutError, Small64Arch};
@@ -80,23 +80,23 @@ pub(crate) fn let_go<T: Drop>(thing: T, is_last: bool) {
 
 /// The answer of `layout N` to all bytes of the source, by the workers that it asks for.
 pub(crate) fn answer_layout<R: Threads + Wait + Sync, G: Gate + Sync>(
-    process: &Process<'_, R, G>,
+    caller: &Caller<'_, R, G>,
     alloc: Global,
     workers: u8,
     bytes: Vec<u8>,
 ) -> Result<Answer, AllocError>
-    requires gate { 2 ≤ workers → G.may_enter process.now.gate.now }
+    requires gate { 2 ≤ workers → G.may_enter caller.now.gate.now }
     ensures { IfOk result (IsAnswerToReading IsMappedAnswer (reading_of bytes.items)) }
 {
-    let rt = process.rt;
+    let rt = caller.rt;
     match read_up_by_workers(rt, alloc, bytes, workers)? {
         Reading::Link(link) => {
             let workers = u32::from(workers);
-            let gate = process.gate;
+            let gate = caller.gate;
             let computed = compute(rt, alloc, &link, &Small64, &Small64Arch, workers, gate);
             let answer = answer_by_workers(rt, alloc, &link, &computed, workers);
-            let_go(computed, process.is_last);
-            let_go(link, process.is_last);
+            let_go(computed, caller.is_last);
+            let_go(link, caller.is_last);
             answer
         }
         Reading::Fault(answer) => Ok(answer),

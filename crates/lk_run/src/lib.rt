@@ -3,6 +3,7 @@
 #![tactic(auto)]
 
 pub mod answer;
+mod caller;
 mod checked_map;
 mod explained;
 pub mod fault_texts;
@@ -11,7 +12,6 @@ mod imaged;
 mod inputs;
 mod laid_out;
 pub mod laws;
-mod process;
 pub mod program;
 pub mod status;
 pub mod too_long;

@@ -7,7 +7,7 @@ ghost use Rattle.std.specs.Vec.Iter.{into_iter_items};
 ghost use Rattle.lk_run.specs.Program.{IsProgramRun, IsStopped};
 ghost use Rattle.lk_run.specs.RunAlone.{AsksForWorkers};
 
-use crate::process::Process;
+use crate::caller::Caller;
 use crate::status::Status;
 use crate::top_call::run_words;
 use crate::words::words_behind_name;
@@ -42,12 +42,12 @@ pub fn run_program<R: Threads + Wait + Sync, S: Source, K: Sink>(
     };
     match words {
         Ok(words) => {
-            let process = Process {
+            let caller = Caller {
                 rt,
                 gate: &NoGate,
                 is_last: true,
             };
-            run_words(&process, alloc, &words, source, sink).exit_code()
+            run_words(&caller, alloc, &words, source, sink).exit_code()
         }
         Err(_) => Status::NoMemory.exit_code(),
     }

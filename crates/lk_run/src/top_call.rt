@@ -12,6 +12,7 @@ ghost use Rattle.lk_run.specs.Steps.{CanBeAsked, held_by, IsCommandRun, IsMadeFo
 ghost use Rattle.lk_run.specs.Words.{workers_for};
 
 use crate::answer::Answer;
+use crate::caller::Caller;
 use crate::checked_map::answer_check;
 use crate::explained::answer_why;
 use crate::generated::answer_gen;
@@ -19,7 +20,6 @@ use crate::imaged::{answer_image, answer_image_alone};
 use crate::inputs::{CommandInput, answer_too_long, read_for};
 use crate::laid_out::{answer_layout, answer_layout_alone};
 use crate::laws::runs_are_sound;
-use crate::process::Process;
 use crate::status::Status;
 use crate::words::{Command, read_words, usage_text};
 use lk_devices::sink::Sink;
@@ -32,21 +32,21 @@ use std::thread::Threads;
 
 /// The answer of a command to all bytes of its source.
 fn answer_bytes<R: Threads + Wait + Sync, G: Gate + Sync>(
-    process: &Process<'_, R, G>,
+    caller: &Caller<'_, R, G>,
     alloc: Global,
     command: Command,
     bytes: Vec<u8>,
 ) -> Result<Answer, AllocError>
-    requires gate { 2 ≤ workers_for command → G.may_enter process.now.gate.now }
+    requires gate { 2 ≤ workers_for command → G.may_enter caller.now.gate.now }
     requires asked { CanBeAsked command }
     ensures { IfOk result (IsMadeOf command bytes.items) }
 {
     match command {
-        Command::Layout(workers) => answer_layout(process, alloc, workers, bytes),
+        Command::Layout(workers) => answer_layout(caller, alloc, workers, bytes),
         Command::Gen { seed, size } => answer_gen(alloc, seed, size),
         Command::Why { file, index } => answer_why(alloc, file, index, bytes),
         Command::Check => answer_check(alloc, bytes),
-        Command::Image(workers) => answer_image(process, alloc, workers, bytes),
+        Command::Image(workers) => answer_image(caller, alloc, workers, bytes),
     }
 }
 
@@ -66,17 +66,17 @@ fn answer_bytes_alone(alloc: Global, command: Command, bytes: Vec<u8>) -> Result
 
 /// The answer of a command to what its source was found to hold.
 fn answer<R: Threads + Wait + Sync, G: Gate + Sync>(
-    process: &Process<'_, R, G>,
+    caller: &Caller<'_, R, G>,
     alloc: Global,
     command: Command,
     input: CommandInput,
 ) -> Result<Answer, AllocError>
-    requires gate { 2 ≤ workers_for command → G.may_enter process.now.gate.now }
+    requires gate { 2 ≤ workers_for command → G.may_enter caller.now.gate.now }
     requires asked { CanBeAsked command }
     ensures { IfOk result (IsMadeFor command (held_by input)) }
 {
     match input {
-        CommandInput::Bytes(bytes) => answer_bytes(process, alloc, command, bytes),
+        CommandInput::Bytes(bytes) => answer_bytes(caller, alloc, command, bytes),
         CommandInput::TooLong => answer_too_long(alloc),
     }
 }
@@ -114,19 +114,19 @@ fn write_made<K: Sink>(answer: Result<Answer, AllocError>, sink: &mut K) -> Stat
 
 /// Runs a command.
 fn run_command<R: Threads + Wait + Sync, S: Source, K: Sink, G: Gate + Sync>(
-    process: &Process<'_, R, G>,
+    caller: &Caller<'_, R, G>,
     alloc: Global,
     command: Command,
     source: &mut S,
     sink: &mut K,
 ) -> Status
-    requires gate { 2 ≤ workers_for command → G.may_enter process.now.gate.now }
+    requires gate { 2 ≤ workers_for command → G.may_enter caller.now.gate.now }
     requires asked { CanBeAsked command }
     ensures run { IsCommandRun command (S.state source.old) (S.state source.new) (K.state sink.old) (K.state sink.new) result }
     ensures mapped { IsMappedCommand command (S.state source.old) (K.state sink.old) (K.state sink.new) result }
 {
     match read_for(alloc, command, source) {
-        Ok(input) => write_made(answer(process, alloc, command, input), sink),
+        Ok(input) => write_made(answer(caller, alloc, command, input), sink),
         Err(status) => status,
     }
 }
@@ -160,18 +160,18 @@ fn run_usage<K: Sink>(sink: &mut K) -> Status
 
 /// What the words ask for.
 pub(crate) fn run_words<R: Threads + Wait + Sync, S: Source, K: Sink, G: Gate + Sync>(
-    process: &Process<'_, R, G>,
+    caller: &Caller<'_, R, G>,
     alloc: Global,
     words: &[String],
     source: &mut S,
     sink: &mut K,
 ) -> Status
-    requires gate { AsksForWorkers (map string_bytes words.now) → G.may_enter process.now.gate.now }
+    requires gate { AsksForWorkers (map string_bytes words.now) → G.may_enter caller.now.gate.now }
     ensures run { IsRun (map string_bytes words.now) (S.state source.old) (S.state source.new) (K.state sink.old) (K.state sink.new) result }
     ensures mapped { IsMappedRun (map string_bytes words.now) (S.state source.old) (K.state sink.old) (K.state sink.new) result }
 {
     match read_words(words) {
-        Some(command) => run_command(process, alloc, command, source, sink),
+        Some(command) => run_command(caller, alloc, command, source, sink),
         None => run_usage(sink),
     }
 }
@@ -220,12 +220,12 @@ pub fn run<R: Threads + Wait + Sync, S: Source, K: Sink, G: Gate + Sync>(
     ensures mapped { IsMappedRun (map string_bytes words.now) (S.state source.old) (K.state sink.old) (K.state sink.new) result }
 {
     runs_are_sound();
-    let process = Process {
+    let caller = Caller {
         rt,
         gate,
         is_last: false,
     };
-    run_words(&process, alloc, words, source, sink)
+    run_words(&caller, alloc, words, source, sink)
 }
 
 /// The same on the caller's own thread. It waits for nobody, and always returns. `None` tells that the words ask for

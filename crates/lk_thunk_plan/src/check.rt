@@ -63,12 +63,15 @@ impl fmt::Display for BranchPlace {
 /// What branches go by.
 #[derive(Clone, Copy)]
 pub struct Branches<'a> {
+    /// The link that they are of.
     pub link: &'a LinkInput,
+    /// What is live of it.
     pub live: &'a Live,
+    /// The blocks of its thunks.
     pub plan: &'a ThunkPlan,
-    /// Where the thunks of each block begin.
+    /// Where the thunks of each block begin; none without an owner.
     pub places: &'a [Option<u64>],
-    /// Of input sections, by number over all files.
+    /// The addresses of input sections, by number over all files.
     pub addresses: &'a [u64],
     /// What is deleted of the sections of each file, by the file's number over all groups.
     pub deltas: &'a [RelaxDeltaMap],

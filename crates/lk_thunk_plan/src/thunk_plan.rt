@@ -66,7 +66,7 @@ pub fn plan_thunks<A: Arch>(
     let Some(builder) = builder_for(link, &config) else {
         return Ok(unplanned(alloc, Some(config)));
     };
-    let making = Making { config, builder };
+    let making = ThunkPlanning { config, builder };
     planned(alloc, link, live, owners.contents(), making)
 }
 
@@ -96,7 +96,7 @@ fn unplanned(alloc: Global, config: Option<ThunkConfig>) -> ThunkPlan
 
 /// How thunks are made, and the planning by that.
 #[derive(Clone, Copy)]
-struct Making {
+struct ThunkPlanning {
     config: ThunkConfig,
     builder: ThunkLayoutBuilder,
 }
@@ -107,7 +107,7 @@ fn planned(
     link: &LinkInput,
     live: &Live,
     contents: &[PartContents],
-    making: Making,
+    making: ThunkPlanning,
 ) -> Result<ThunkPlan, AllocError>
     requires good { IsWellFormed link.now }
     requires live { AreLive link.now live.now }

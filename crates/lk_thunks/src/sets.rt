@@ -145,7 +145,7 @@ pub(crate) struct Planner<'a> {
 
 /// An object whose symbols are looked at for a block.
 #[derive(Clone, Copy)]
-pub(crate) struct UserOfBlock<'a> {
+pub(crate) struct BlockUser<'a> {
     by: &'a Planner<'a>,
     /// The stamp of the block.
     stamp: u32,
@@ -250,7 +250,7 @@ fn is_noted(stamps: &[u32], stamp: u32, definition: SymbolId) -> bool
 
 /// Takes in what an object needs for a symbol of its file. One whose definition is taken in already isn't looked at further.
 fn add_symbol(
-    user: &UserOfBlock<'_>,
+    user: &BlockUser<'_>,
     set: &mut Vec<SymbolId>,
     stamps: &mut [u32],
     number: SymbolId,
@@ -271,7 +271,7 @@ fn add_symbol(
 
 /// Takes in what an object needs for some symbols of its file, the first of them with this number.
 fn add_symbols(
-    user: &UserOfBlock<'_>,
+    user: &BlockUser<'_>,
     set: &mut Vec<SymbolId>,
     stamps: &mut [u32],
     first: u32,
@@ -307,7 +307,7 @@ fn add_object(
 {
     if let Some(file) = by.link.groups.file(object.0) {
         if let Some(numbers) = by.link.groups.symbol_id_range(object.0) {
-            let user = UserOfBlock { by, stamp, object };
+            let user = BlockUser { by, stamp, object };
             let first = numbers.start().as_u32();
             add_symbols(&user, set, stamps, first, file.symbols.as_slice())?;
         }

@@ -7,7 +7,7 @@ use Rattle.lk_deltas.specs.Deletions.{AreDeletions}
 use Rattle.lk_deltas.specs.declared.candidates.Outcome.{Outcome}
 use Rattle.lk_deltas.specs.LinkDeletions.{deleted_of}
 use Rattle.lk_relax.specs.Scan.{candidates_of, told}
-use Rattle.lk_relax.specs.ScanWords.{judged, standing_of}
+use Rattle.lk_relax.specs.ScanWords.{judged, pass_state_of}
 use Rattle.lk_relax.proofs.Scanning.{are_good, are_numbered}
 use Rattle.lk_relax.proofs.scan.scan_section.Goals as goal
 
@@ -40,7 +40,7 @@ returns c =
     let cs : List RelaxCandidate = c.candidates_of-candidates.result.now in
     let all : List RelaxCandidate = candidates_of before.link.now.groups id index in
     let tells : RelaxCandidate → Outcome = judged c.judge_of-judge.result in
-    let tell : RelaxCandidate → Outcome = told (standing_of before) id index in
+    let tell : RelaxCandidate → Outcome = told (pass_state_of before) id index in
     let same : tells ≡ tell = fun_ext c.judge_of-judge.ensures.tells in
     let old : Option (List (ℕ × ℕ)) = option_copied c.judge_of-judge.result.deleted in
     let gone : Option (List (ℕ × ℕ)) = deleted_of before.link.now.groups before.deltas.now id index in

@@ -4,7 +4,7 @@ use Rattle.std.specs.Option.{option_copied}
 use Rattle.lk_link.specs.Inputs.{input_number}
 use Rattle.lk_link.proofs.InputLemmas.{inputs_follow}
 use Rattle.lk_deltas.specs.DeltaMaps.{deltas_at}
-use Rattle.lk_relax.specs.ScanWords.{standing_of}
+use Rattle.lk_relax.specs.ScanWords.{pass_state_of}
 use Rattle.lk_relax.proofs.PastSites.{whole_section}
 use Rattle.lk_relax.proofs.sites.check_section.Goals as goal
 
@@ -20,4 +20,4 @@ check_candidates-requires-clause-can c =
 pub returns-in-None : goal.returns-in-None
 returns-in-None c =
     let none = ap (option_and_then (λ (es : List (ℕ × List (ℕ × ℕ))). deltas_at es c.args.index)) c.requires.map ∙ sym c.get.ensures ∙ ap option_copied c.in-None.is in
-    whole_section (standing_of c.args.by) c.args.file.id (c.args.index, c.args.section.now) none
+    whole_section (pass_state_of c.args.by) c.args.file.id (c.args.index, c.args.section.now) none

@@ -4,7 +4,7 @@ use Rattle.std.proofs.lemmas.Option.{slice_get-get_or}
 use Rattle.lk_link.specs.declared.section.InputSection.{InputSection}
 use Rattle.lk_reach.proofs.SymbolNumbers.{sections_few}
 use Rattle.lk_relax.specs.declared.sites.RelaxedPlace.{RelaxedPlace}
-use Rattle.lk_relax.specs.ScanWords.{standing_of}
+use Rattle.lk_relax.specs.ScanWords.{pass_state_of}
 use Rattle.lk_relax.specs.Sites.{section_past}
 use Rattle.lk_stops.proofs.Stopping.{all_gone, exit, one_more, stops_at}
 use Rattle.lk_relax.proofs.sites.check_sections.Goals as goal
@@ -27,7 +27,7 @@ check_section-requires-clause-section c =
 pub returns-in_err-check_section : goal.returns-in_err-check_section
 returns-in_err-check_section c =
     let n = c.loop-index.index in
-    let f = section_past (standing_of c.args.by) c.args.file.id in
+    let f = section_past (pass_state_of c.args.by) c.args.file.id in
     exit _ _ c.from_residual.result c.from_residual.ensures.1 (λ e is.
     stops_at f 0 c.args.file.file.now.sections c.as_slice-section-items.result.now n n c.section-item.result _ c.as_slice-section-items.ensures c.loop-index-test.true (omega arith)
     c.loop-index.invariant (ap (λ (s : InputSection). slice_get (f (n, s)) 0) (sym c.section-item.is) ∙ c.in_err-check_section.ensures) ∙ ap (λ (p : RelaxedPlace). Some p) (sym is))
@@ -35,11 +35,11 @@ returns-in_err-check_section c =
 pub loop-index-preserved : goal.loop-index-preserved
 loop-index-preserved c =
     let n = c.loop-index.index in
-    let f = section_past (standing_of c.args.by) c.args.file.id in
+    let f = section_past (pass_state_of c.args.by) c.args.file.id in
     one_more f 0 c.args.file.file.now.sections c.as_slice-section-items.result.now n n c.section-item.result c.as_slice-section-items.ensures c.loop-index-test.true (omega arith)
     c.loop-index.invariant (ap (λ (s : InputSection). f (n, s)) (sym c.section-item.is) ∙ c.in_ok-check_section.ensures)
 
 pub returns : goal.returns
 returns c =
-    let f = section_past (standing_of c.args.by) c.args.file.id in
+    let f = section_past (pass_state_of c.args.by) c.args.file.id in
     all_gone f 0 c.args.file.file.now.sections c.as_slice-section-items.result.now c.loop-index.index c.as_slice-section-items.ensures c.loop-index-test.false c.loop-index.invariant
