@@ -20,8 +20,8 @@ pub fn placement_is_one()
 
 /// A law: cursors and records are what an event gives exactly where it moves the cursors and then places its section, if it has one:
 /// walked parts stand one behind the other, each at the least multiple of its alignment at or above the offsets, the others rest
-/// where the first walked one starts, all end below 2^64 and inside the section's region, and are loaded from its load address, or
-/// from where they stand.
+/// where the first walked one starts, all are loaded from its load address, or from where they stand, and all end below 2^64, and
+/// behind them memory isn't past the end of the section's region.
 pub fn events_are_carried_out()
     ensures { EventsAreCarriedOut }
 {}
