@@ -80,8 +80,7 @@ walked_from setting s p from = placed_at (is_file_backed setting.plan s) (walk_a
 
 -- the record of the first walked part of a section whose parts begin here
 abbrev pub first_record : Setting → ℕ → Offsets → Record
-first_record setting s begin =
-    placed_at (is_file_backed setting.plan s) (section_alignment setting s) (size_at setting.sizes (first_walked setting s)) begin
+first_record setting s begin = walked_from setting s (first_walked setting s) begin
 
 -- the record of part p of a section whose parts begin here, behind the offsets
 abbrev pub next_record : Setting → ℕ → Offsets → ℕ → Offsets → Record
