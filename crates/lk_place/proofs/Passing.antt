@@ -1,6 +1,6 @@
 -- An event that isn't refused is carried out step by step, and what carries it out is what it gives.
-use Rattle.std.proofs.Common.{◌≡◌, ℕ, ◌+◌, ◌<◌, List, [], length, Option, Some, refl, sym, ap, ◌∙◌}
-use Rattle.std.specs.Prelude.{map, slice_get, Result, Ok}
+use Rattle.std.proofs.Common.{◌≡◌, ℕ, ◌+◌, ◌<◌, List, [], length, Option, refl, sym, ap, ◌∙◌}
+use Rattle.std.specs.Prelude.{map, Result, Ok}
 use Rattle.lk_link.specs.declared.plan.OrderEvent.{OrderEvent}
 use Rattle.lk_link.specs.declared.plan.OrderEvent.TheVariants.{SegmentStart, SegmentEnd, Section, SetLocation, SetLocationRelative, SetSectionAddress}
 use Rattle.lk_link.specs.declared.plan.Plan.{Plan}
@@ -9,10 +9,10 @@ use Rattle.lk_link.specs.Parts.{all_parts}
 use Rattle.lk_link.specs.WellFormed.{IsInRange}
 use Rattle.lk_place.specs.declared.cursors.Cursors.{Cursors}
 use Rattle.lk_place.specs.declared.error.Refusal.{Refusal}
-use Rattle.lk_place.specs.CarriedOut.{CarriesOut, EventsAreCarriedOut, Places}
+use Rattle.lk_place.specs.CarriedOut.{CarriesOut, EventsAreCarriedOut, GivenIsCarriedOut, Places}
 use Rattle.lk_place.specs.InRegions.{past_region, stands_in}
 use Rattle.lk_place.specs.PlacedBefore.{Known, PlacedRecords}
-use Rattle.lk_place.specs.Placement.{IsPlaced, carried_out, known_before, load_given, loaded_by, own_records, placed_by, record_by, records_by, section_left, section_overflow, section_start, state_at}
+use Rattle.lk_place.specs.Placement.{carried_out, known_before, load_given, loaded_by, own_records, placed_by, record_by, records_by, section_left, section_overflow, section_start, state_at}
 use Rattle.lk_expressions.specs.Expressions.{◌>>=◌}
 use Rattle.lk_expressions.specs.Records.{Record, record_at}
 use Rattle.lk_place.specs.Setting.{IsReady, Setting, part_number}
@@ -72,13 +72,14 @@ places_given setting standing (Section s) c records to ready each there places =
     let walked : AreWalked setting standing s c records = λ j less.
     loaded_is places.load (record_at records (number j)) (placed j) (makes.made j less) (places.loaded j less) ∙ ap (λ (o : Option ℕ). loaded_by o (placed j)) (sym (ap load_or_none places.given)) in
     let give : Cursors → Option ℕ → Cursors × List Record = λ left load. (left, map (loaded_by load) (records_by setting s (section_start setting s c))) in
-    steps_made (section_overflow setting s c) (load_given setting standing s c) (λ left. past_region setting (stands_in setting.plan s) left.memory) (section_left setting s c) give places.load
-    places.fits places.given (ap (λ (left : Cursors). past_region setting (stands_in setting.plan s) left.memory) (sym makes.leaves) ∙ places.not_past)
+    let past : Cursors → Option Refusal = λ left. past_region setting (stands_in setting.plan s) left.memory in
+    steps_made (section_overflow setting s c) (load_given setting standing s c) past (section_left setting s c) give places.load
+    places.fits places.given (ap past (sym makes.leaves) ∙ places.not_past)
     ∙ ap (λ (left : Cursors). Ok (give left places.load)) (sym makes.leaves)
     ∙ ap (λ (o : Option ℕ). Ok (give to o)) (sym (ap load_or_none places.given))
     ∙ ap (λ (rs : List Record). Ok (to, rs)) (sym (walked_given setting standing s c records each (there s refl) walked))
 
--- ---- the law
+-- ---- the laws
 
 -- the section that an event places is there
 section_in_range : (plan : Plan) (e : OrderEvent) → IsInRange plan e → (s : ℕ) → e ≡ Section s → s < length plan.sections
@@ -94,17 +95,14 @@ carries_out setting known e from records to ready within gives =
       places = event_places setting known.standing e (entered setting known e from) records to ready given.places (section_in_range setting.plan e within);
     }
 
-pub events_are_carried_out : EventsAreCarriedOut
-events_are_carried_out setting known e from records to ready within each = (
+pub given_is_carried_out : GivenIsCarriedOut
+given_is_carried_out setting known e from records to ready within each = (
   carries_out setting known e from records to ready within,
   λ carries.
       ap (λ (r : Result Cursors Refusal). r >>= placed_by setting known.standing (placed_section e)) carries.moves
       ∙ places_given setting known.standing e carries.entered records to ready each (section_in_range setting.plan e within) carries.places,
 )
 
--- so it is with each event of a placement before the last state
-pub event_carried_out : (setting : Setting) (states : List Cursors) (records : List Record) → IsReady setting → IsPlaced setting states records
-    → (k : ℕ) (e : OrderEvent) → k + 1 < length states → slice_get setting.plan.events k ≡ Some e
-    → CarriesOut setting (known_before setting states records k) e (state_at states k) records (state_at states (k + 1))
-event_carried_out setting states records ready is k e more here =
+pub events_are_carried_out : EventsAreCarriedOut
+events_are_carried_out setting states records ready is k e more here =
     carries_out setting (known_before setting states records k) e (state_at states k) records (state_at states (k + 1)) ready (ready.events.in_range k e here) (is.steps k e more here)
