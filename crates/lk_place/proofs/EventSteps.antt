@@ -7,7 +7,7 @@ use Rattle.lk_place.specs.declared.cursors.Cursors.{Cursors}
 use Rattle.lk_place.specs.declared.error.Refusal.{Refusal}
 use Rattle.lk_place.specs.InRegions.{past_region, stands_in}
 use Rattle.lk_place.specs.PlacedBefore.{Known, PlacedRecords}
-use Rattle.lk_place.specs.Placement.{carried_out, load_given, loaded_by, moved, placed_by, records_by, refused, section_left, section_overflow, section_start, unless}
+use Rattle.lk_place.specs.Placement.{carried_out, load_given, loaded_by, moved, placed_by, records_by, refusal_in, section_left, section_overflow, section_start, unless}
 use Rattle.lk_expressions.specs.Expressions.{◌>>=◌}
 use Rattle.lk_expressions.specs.Records.{Record}
 use Rattle.lk_place.specs.Setting.{Setting}
@@ -46,15 +46,15 @@ section_gives setting standing s from = (section_left setting s from, loaded_rec
 pub record IsSectionGiven (setting : Setting) (standing : PlacedRecords) (s : ℕ) (from : Cursors) (given : Cursors × List Record) : Type 0 where
   pub fits : section_overflow setting s from ≡ None
   pub load : load_given setting standing s from ≡ Ok (load_of setting standing s from)
-  pub inside : past_region setting (stands_in setting.plan s) (section_left setting s from).memory ≡ None
+  pub not_past : past_region setting (stands_in setting.plan s) (section_left setting s from).memory ≡ None
   pub gives : section_gives setting standing s from ≡ given
 
-pub section_given : (setting : Setting) (standing : PlacedRecords) (s : ℕ) (from : Cursors) (given : Cursors × List Record) → placed_by setting standing (Some s) from ≡ Ok given
+pub section_is_given : (setting : Setting) (standing : PlacedRecords) (s : ℕ) (from : Cursors) (given : Cursors × List Record) → placed_by setting standing (Some s) from ≡ Ok given
     → IsSectionGiven setting standing s from given
-section_given setting standing s from given h =
+section_is_given setting standing s from given h =
     let steps = steps_given (section_overflow setting s from) (load_given setting standing s from) (λ to. past_region setting (stands_in setting.plan s) to.memory) (section_left setting s from)
     (λ to load. (to, map (loaded_by load) (records_by setting s (section_start setting s from)))) given h in
-    record { fits = steps.0; load = steps.1; inside = steps.2; gives = steps.3 }
+    record { fits = steps.0; load = steps.1; not_past = steps.2; gives = steps.3 }
 
 -- ---- the steps of an event
 
@@ -71,7 +71,7 @@ placed_given setting standing None from given h =
     let same : none ≡ given = ok_same none given h in
     (ap (λ (q : Cursors × List Record). q.0) same, ap (λ (q : Cursors × List Record). q.1) same)
 placed_given setting standing (Some s) from given h =
-    let same = (section_given setting standing s from given h).gives in
+    let same = (section_is_given setting standing s from given h).gives in
     (ap (λ (q : Cursors × List Record). q.0) same, ap (λ (q : Cursors × List Record). q.1) same)
 
 -- what is made of what there is isn't refused where there is something
@@ -98,12 +98,12 @@ event_given setting known e from given h =
     record { moves = steps.0; places = steps.1; leaves = both.0; makes = both.1 }
 
 -- what isn't refused gives something
-something : {X : Type 0} (k : ℕ) (r : Result X Refusal) → refused k r ≡ None → (x : X) × (r ≡ Ok x)
+something : {X : Type 0} (k : ℕ) (r : Result X Refusal) → refusal_in k r ≡ None → (x : X) × (r ≡ Ok x)
 something k (Ok x) h = (x, refl)
 something k (Err r) h = absurd (cc)
 
 -- and that is what the walk computes
-pub event_gives : (setting : Setting) (known : Known) (k : ℕ) (e : OrderEvent) (from : Cursors) → refused k (carried_out setting known e from) ≡ None
+pub event_gives : (setting : Setting) (known : Known) (k : ℕ) (e : OrderEvent) (from : Cursors) → refusal_in k (carried_out setting known e from) ≡ None
     → carried_out setting known e from ≡ Ok (left_by setting known (Some e) from, made_records setting known e from)
 event_gives setting known k e from none =
     let there = something k (carried_out setting known e from) none in

@@ -14,7 +14,7 @@ use Rattle.lk_place.specs.CarriedOut.{PlacesSection, CarriesOut}
 use Rattle.lk_place.specs.PlacementLaws.{PartsTakeTheirBytes}
 use Rattle.lk_expressions.specs.Records.{Record, nowhere, record_at}
 use Rattle.lk_place.specs.Setting.{IsReady, Setting, part_count, part_number, size_at}
-use Rattle.lk_place.proofs.Passing.{event_carried_out}
+use Rattle.lk_place.proofs.Passing.{events_are_carried_out}
 
 -- ---- the section of a part
 
@@ -63,7 +63,7 @@ part_takes setting states records ready is unrefused p below =
     let event = ready.events.placed s at.there in
     let k : ℕ = event.0 in
     let early : k < length setting.plan.events = slice_get_within setting.plan.events k (Section s) event.1 in
-    let steps : CarriesOut setting (known_before setting states records k) (Section s) (state_at states k) records (state_at states (k + 1)) = event_carried_out setting states records ready is k (Section s) (omega (arith, is.ends unrefused)) event.1 in
+    let steps : CarriesOut setting (known_before setting states records k) (Section s) (state_at states k) records (state_at states (k + 1)) = events_are_carried_out setting states records ready is k (Section s) (omega (arith, is.ends unrefused)) event.1 in
     ap (λ (n : ℕ). (record_at records n).mem_size) at.is
     ∙ section_takes setting s j steps.entered (state_at states (k + 1)) records steps.places.placed at.within
     ∙ ap (size_at setting.sizes) (sym at.is)

@@ -15,7 +15,7 @@ use Rattle.lk_expressions.specs.Records.{Record, record_at}
 use Rattle.lk_place.specs.Setting.{IsReady, Setting, part_count, part_number, size_at}
 use Rattle.lk_place.proofs.WalkedAlignments.{walk_aligned}
 use Rattle.lk_place.proofs.Multiples.{least_one}
-use Rattle.lk_place.proofs.SectionEnds.{IsFirstWalked, first_alignment, first_is_walked, first_walked_place, none_before}
+use Rattle.lk_place.proofs.SectionEnds.{IsFirstWalked, first_is_walked, first_walked_place, none_before}
 
 -- ---- one part
 
@@ -91,12 +91,9 @@ by_resting setting s begin p h =
 -- the first walked part's record is the one that others rest beside
 first_walked_record : (setting : Setting) (s i : ℕ) (begin : Offsets) → IsFirstWalked setting s i → walked_record setting s begin i ≡ first_record setting s begin
 first_walked_record setting s i begin walked =
-    let backed : Bool = is_file_backed setting.plan s in
     let p : ℕ = part_number setting.plan.sections s i in
-    let record_of : ℕ → ℕ → Offsets → Record = λ a n c. placed_at backed a (size_at setting.sizes n) c in
-    ap (record_of (walk_alignment setting s p) p) (none_before setting s i begin i walked (omega arith))
-    ∙ ap (λ (n : ℕ). record_of (walk_alignment setting s n) n begin) (sym walked.is)
-    ∙ ap (λ (a : ℕ). record_of a (first_walked setting s) begin) (first_alignment setting s)
+    ap (walked_from setting s p) (none_before setting s i begin i walked (omega arith))
+    ∙ ap (λ (n : ℕ). walked_from setting s n begin) (sym walked.is)
 
 pub place_walked : (setting : Setting) (s i : ℕ) → IsFirstWalked setting s i → is_walked setting s (part_number setting.plan.sections s i) ≡ true
 place_walked setting s i walked = ap (is_walked setting s) (sym walked.is) ∙ first_is_walked setting s

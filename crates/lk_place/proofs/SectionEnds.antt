@@ -152,10 +152,17 @@ first_is_walked setting s =
     rw same (elim (has_bytes setting.sizes (first_walked setting s)) as (λ b. (b || true) ≡ true) [ true ↦ refl | false ↦ refl ])
 
 -- at its section's alignment
-pub first_alignment : (setting : Setting) (s : ℕ) → walk_alignment setting s (first_walked setting s) ≡ section_alignment setting s
+first_alignment : (setting : Setting) (s : ℕ) → walk_alignment setting s (first_walked setting s) ≡ section_alignment setting s
 first_alignment setting s =
     let same : (first_walked setting s == first_walked setting s) ≡ true = eq-eqb (first_walked setting s) (first_walked setting s) refl in
     rw same refl
+
+-- so its record is this one
+pub first_placed : (setting : Setting) (s : ℕ) (begin : Offsets)
+    → placed_at (is_file_backed setting.plan s) (section_alignment setting s) (size_at setting.sizes (first_walked setting s)) begin ≡ first_record setting s begin
+first_placed setting s begin =
+    let placed : ℕ → Record = λ a. placed_at (is_file_backed setting.plan s) a (size_at setting.sizes (first_walked setting s)) begin in
+    ap placed (sym (first_alignment setting s))
 
 -- up to it the cursors stay where they begin
 pub none_before : (setting : Setting) (s i : ℕ) (begin : Offsets) (j : ℕ) → IsFirstWalked setting s i → j ≤ i → end_behind setting s begin j ≡ begin
@@ -170,12 +177,9 @@ none_before setting s i begin (suc j) walked h =
 pub first_end : (setting : Setting) (s i : ℕ) (begin : Offsets) → IsFirstWalked setting s i
     → end_behind setting s begin (suc i) ≡ behind (first_record setting s begin)
 first_end setting s i begin walked =
-    let first : ℕ = first_walked setting s in
-    let backed : Bool = is_file_backed setting.plan s in
     ap (next_end setting s (part_number setting.plan.sections s i)) (none_before setting s i begin i walked (omega arith))
     ∙ ap (λ (p : ℕ). next_end setting s p begin) (sym walked.is)
-    ∙ ap (λ (b : Bool). cond b (behind (walked_from setting s first begin)) begin) (first_is_walked setting s)
-    ∙ ap (λ (a : ℕ). behind (placed_at backed a (size_at setting.sizes first) begin)) (first_alignment setting s)
+    ∙ ap (λ (b : Bool). cond b (behind (first_record setting s begin)) begin) (first_is_walked setting s)
 
 -- ---- the walk over the parts
 

@@ -15,7 +15,7 @@ use Rattle.lk_place.specs.CarriedOut.{Places, PlacesSection, CarriesOut, reached
 use Rattle.lk_expressions.specs.Records.{Record, file_end}
 use Rattle.lk_place.specs.Setting.{IsReady, Setting, part_count}
 use Rattle.lk_place.proofs.Moves.{file_grows}
-use Rattle.lk_place.proofs.Passing.{event_carried_out}
+use Rattle.lk_place.proofs.Passing.{events_are_carried_out}
 use Rattle.lk_place.proofs.Ranges.{Follow, file_ranges, rises, section_follows}
 
 -- what follows from low to high follows from lower to higher
@@ -35,7 +35,7 @@ event_at setting states records k is less =
 
 pub step_at : (setting : Setting) (states : List Cursors) (records : List Record) (k : ℕ) (e : OrderEvent) → IsReady setting → IsPlaced setting states records → k < length states - 1
     → slice_get setting.plan.events k ≡ Some e → CarriesOut setting (known_before setting states records k) e (state_at states k) records (state_at states (k + 1))
-step_at setting states records k e ready is less here = event_carried_out setting states records ready is k e (omega arith) here
+step_at setting states records k e ready is less here = events_are_carried_out setting states records ready is k e (omega arith) here
 
 abbrev FollowInFile : Setting → List Record → ℕ → ℕ → ℕ → Type 0
 FollowInFile setting records s low high = Follow (λ r. r.file_offset) file_end records (first_part setting.plan.sections s) (part_count setting.plan.sections s) low high

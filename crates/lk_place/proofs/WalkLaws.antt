@@ -13,7 +13,7 @@ use Rattle.lk_link.proofs.Numbers.{length-made, made_at}
 use Rattle.lk_link.proofs.PartNumbers.{parts_end-le}
 use Rattle.lk_place.specs.declared.cursors.Cursors.{Cursors}
 use Rattle.lk_place.specs.declared.error.PlaceError.{PlaceError}
-use Rattle.lk_place.specs.Placement.{IsPlaced, carried_out, first_refusal, known_before, placed_records, placement_refusal, refusal_behind, refusal_of, refused, state_at}
+use Rattle.lk_place.specs.Placement.{IsPlaced, carried_out, first_refusal, known_before, own_records, placement_refusal, refusal_behind, refusal_in, refusal_of, state_at}
 use Rattle.lk_place.specs.CarriedOut.{IsPlacedBefore}
 use Rattle.lk_place.specs.PlacementLaws.{PlacementExists, PlacementIsOne}
 use Rattle.lk_place.specs.PlacedBefore.{Known, PlacedRecords, is_placed_before}
@@ -83,7 +83,7 @@ walk_known setting n k records walk le =
 event_made : (setting : Setting) (standing : PlacedRecords) (e : OrderEvent) (c : Cursors) (records : List Record) → length records ≡ length (all_parts setting.plan.sections)
     → ((s : ℕ) → e ≡ Section s → s < length setting.plan.sections)
     → ((s : ℕ) → e ≡ Section s → AreWalked setting standing s c records)
-    → placed_records setting records e ≡ given_records setting standing (placed_section e) c
+    → own_records setting records e ≡ given_records setting standing (placed_section e) c
 event_made setting standing (SegmentStart i) c records each there made = refl
 event_made setting standing (SegmentEnd i) c records each there made = refl
 event_made setting standing (SetLocation x) c records each there made = refl
@@ -93,7 +93,7 @@ event_made setting standing (Section s) c records each there made = walked_given
 
 walk_gives : (setting : Setting) (n : ℕ) (records : List Record) → IsWalk setting n records
     → (k : ℕ) (e : OrderEvent) → k < n → slice_get setting.plan.events k ≡ Some e
-    → carried_out setting (known_before setting (states_to setting n) records k) e (state_at (states_to setting n) k) ≡ Ok (state_at (states_to setting n) (k + 1), placed_records setting records e)
+    → carried_out setting (known_before setting (states_to setting n) records k) e (state_at (states_to setting n) k) ≡ Ok (state_at (states_to setting n) (k + 1), own_records setting records e)
 walk_gives setting n records walk k e less here =
     let from : Cursors = cursors_after setting k in
     let known : Known = known_after setting k in
@@ -102,7 +102,7 @@ walk_gives setting n records walk k e less here =
     let next : state_at (states_to setting n) (k + 1) ≡ left_by setting known (Some e) from =
     state_is setting n (k + 1) (omega arith) ∙ cursors_next setting k ∙ ap (λ (o : Option OrderEvent). left_by setting known o from) here in
     let unrefused : refusal_of setting known k (Some e) from ≡ None = ap (λ (o : Option OrderEvent). refusal_of setting known k o from) (sym here) ∙ walk.pass k less in
-    let made : placed_records setting records e ≡ made_records setting known e from =
+    let made : own_records setting records e ≡ made_records setting known e from =
     event_made setting known.standing e (entered setting known e from) records walk.each
     (λ s is. section_there setting k s walk.ready (here ∙ ap (λ (x : OrderEvent). Some x) is))
     (λ s is j within.
@@ -229,8 +229,8 @@ section_as_walked setting states records k s j n ready is more here within early
     let p : ℕ = part_number setting.plan.sections s j in
     let known : Known = known_before setting states records k in
     let from : Cursors = state_at states k in
-    let given : IsGiven setting known e from (state_at states (k + 1), placed_records setting records e) =
-    event_given setting known e from (state_at states (k + 1), placed_records setting records e) (is.steps k e more here) in
+    let given : IsGiven setting known e from (state_at states (k + 1), own_records setting records e) =
+    event_given setting known e from (state_at states (k + 1), own_records setting records e) (is.steps k e more here) in
     given_walked setting known.standing s (entered setting known e from) records (section_there setting k s ready here) (sym given.makes) j within
     ∙ ap (λ (x : Known). loaded_record setting x.standing s (entered setting x e from) p) same
     ∙ ap (λ (c : Cursors). loaded_record setting (known_after setting k).standing s (entered setting (known_after setting k) e c) p) state
@@ -256,8 +256,8 @@ next_state setting states records k ready is more before =
     let e : OrderEvent = slice_index_or setting.plan.events k (SegmentEnd 0) in
     let here : slice_get setting.plan.events k ≡ Some e = slice_get-get_or setting.plan.events k (SegmentEnd 0) (omega (arith, is.within)) in
     let same = known_so_far setting k states records before.walked ready is.each before.so_far in
-    let given : IsGiven setting (known_before setting states records k) e (state_at states k) (state_at states (k + 1), placed_records setting records e) =
-    event_given setting (known_before setting states records k) e (state_at states k) (state_at states (k + 1), placed_records setting records e) (is.steps k e more here) in
+    let given : IsGiven setting (known_before setting states records k) e (state_at states k) (state_at states (k + 1), own_records setting records e) =
+    event_given setting (known_before setting states records k) e (state_at states k) (state_at states (k + 1), own_records setting records e) (is.steps k e more here) in
     sym given.leaves
     ∙ ap (λ (x : Known). left_by setting x (Some e) (state_at states k)) same
     ∙ ap (left_by setting (known_after setting k) (Some e)) (before.walked k (omega arith))
@@ -322,7 +322,7 @@ placed_is_walk setting states records ready some is =
           ap (λ (o : Option OrderEvent). refusal_of setting (known_after setting k) k o (cursors_after setting k)) here
           ∙ ap (refusal_of setting (known_after setting k) k (Some e)) (sym (at.walked k (omega arith)))
           ∙ ap (λ (x : Known). refusal_of setting x k (Some e) (state_at states k)) (sym (known_so_far setting k states records at.walked ready is.each at.so_far))
-          ∙ ap (refused k) (is.steps k e (omega arith) here);
+          ∙ ap (refusal_in k) (is.steps k e (omega arith) here);
       stops = λ none.
           let same : placement_refusal setting states records ≡ None =
           ap (λ (r : Result Cursors PlaceError). first_refusal r (refusal_behind setting states records)) given

@@ -14,7 +14,7 @@ use Rattle.lk_place.specs.declared.cursors.Cursors.{Cursors}
 use Rattle.lk_place.specs.declared.error.PlaceError.{PlaceError}
 use Rattle.lk_place.specs.declared.error.PlaceError.TheVariants.{AddressOverflow, BaseTooLow, Expression, LocationBackwards, NoMemory, OutsideRegion, RegionDuplicate, RegionOverflow, RegionUnknown, SectionOutsideSegments}
 use Rattle.lk_place.specs.declared.error.Refusal.{Refusal}
-use Rattle.lk_place.specs.Placement.{carried_out, refusal_of, refused}
+use Rattle.lk_place.specs.Placement.{carried_out, refusal_in, refusal_of}
 use Rattle.lk_place.specs.Counters.{told_counter}
 use Rattle.lk_place.specs.InRegions.{span_of}
 use Rattle.lk_place.specs.PlacedBefore.{Known, last_before}
@@ -89,13 +89,13 @@ pub record IsTried (setting : Setting) (k : ℕ) (e : OrderEvent) (from : Cursor
   pub gave : end ≡ cursors_of (carried_out setting (known_after setting k) e from)
   pub before : AllPass setting k
 
-told_refused : (k : ℕ) (given : Result (Cursors × List Record) Refusal) (err : PlaceError) → Err err ≡ at_event (cursors_of given) k → refused k given ≡ Some err
+told_refused : (k : ℕ) (given : Result (Cursors × List Record) Refusal) (err : PlaceError) → Err err ≡ at_event (cursors_of given) k → refusal_in k given ≡ Some err
 told_refused k (Ok x) err h = absurd (cc)
 told_refused k (Err r) err h = cc
 
 -- what passes gives something, with these cursors
 record IsPassed (k : ℕ) (given : Result (Cursors × List Record) Refusal) (to : Cursors) : Type 0 where
-  unrefused : refused k given ≡ None
+  unrefused : refusal_in k given ≡ None
   made : Cursors × List Record
   gives : given ≡ Ok made
   leaves : to ≡ made.0
@@ -117,7 +117,7 @@ stops setting k e from end err tried h =
     }
 
 passed : (setting : Setting) (k : ℕ) (e : OrderEvent) (from to : Cursors) (end : Result Cursors Refusal) → IsTried setting k e from end → Ok to ≡ at_event end k
-    → (refused k (carried_out setting (known_after setting k) e from) ≡ None) × (to ≡ left_by setting (known_after setting k) (Some e) from)
+    → (refusal_in k (carried_out setting (known_after setting k) e from) ≡ None) × (to ≡ left_by setting (known_after setting k) (Some e) from)
 passed setting k e from to end tried h =
     let known : Known = known_after setting k in
     let passes : IsPassed k (carried_out setting known e from) to = told_passed k to (carried_out setting known e from) (h ∙ ap (λ (r : Result Cursors Refusal). at_event r k) tried.gave) in

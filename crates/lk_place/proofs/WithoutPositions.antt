@@ -22,7 +22,7 @@ use Rattle.lk_expressions.specs.Expressions.{Valued, ◌>>=◌, expression_value
 use Rattle.lk_expressions.specs.Named.{loads_by_none, moves_by_none, names_no_symbol, names_none}
 use Rattle.lk_place.specs.Locations.{awaiting, behind_start}
 use Rattle.lk_place.specs.PlacedBefore.{Known, PlacedRecords, dot_of, early_known, early_value, refusing}
-use Rattle.lk_place.specs.Placement.{IsPlaced, carried_out, first_refusal, known_before, load_by, load_given, loaded_by, loading, moved, placed_by, placement_refusal, records_by, refusal_of, refused, section_left, section_overflow, section_start, standing_with, state_at, unless}
+use Rattle.lk_place.specs.Placement.{IsPlaced, carried_out, first_refusal, known_before, load_by, load_given, loaded_by, loading, moved, placed_by, placement_refusal, records_by, refusal_in, refusal_of, section_left, section_overflow, section_start, standing_with, state_at, unless}
 use Rattle.lk_place.specs.InRegions.{past_region, stands_in}
 use Rattle.lk_expressions.specs.Records.{Record}
 use Rattle.lk_place.specs.Setting.{Setting}
@@ -103,7 +103,7 @@ event_alike setting positions known e from loads none =
 at_alike : (setting : Setting) (positions : List (Option SymbolPosition)) (known : Known) (k : ℕ) (o : Option OrderEvent) (from : Cursors) → LoadWithoutSymbols setting
     → ((e : OrderEvent) → o ≡ Some e → moves_by_none e ≡ true) → refusal_of (with_positions setting positions) known k o from ≡ refusal_of setting known k o from
 at_alike setting positions known k None from loads none = refl
-at_alike setting positions known k (Some e) from loads none = ap (refused k) (event_alike setting positions known e from loads (none e refl))
+at_alike setting positions known k (Some e) from loads none = ap (refusal_in k) (event_alike setting positions known e from loads (none e refl))
 
 -- ---- placements
 

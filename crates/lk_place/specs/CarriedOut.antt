@@ -1,5 +1,5 @@
--- What a placement promises of each event, by itself: laws of its definition, in which parts start at least multiples.
-use Rattle.std.specs.Prelude.{◌≡◌, ◌↔◌, ℕ, zero, suc, ◌-◌, ◌<◌, Bool, true, false, MatchBool, if◌then◌else◌}
+-- What a placement promises of each event, by itself: laws of its definition, in which parts start at the least multiples of their alignments.
+use Rattle.std.specs.Prelude.{◌≡◌, ◌↔◌, ℕ, zero, suc, ◌+◌, ◌-◌, ◌<◌, Bool, true, false, MatchBool, if◌then◌else◌}
 use Rattle.std.specs.Prelude.{List, length, slice_get, Option, Some, None, Ok, unwrap_or}
 use Rattle.lk_link.specs.declared.plan.OrderEvent.{OrderEvent}
 use Rattle.lk_link.specs.declared.plan.OrderEvent.TheVariants.{Section}
@@ -12,7 +12,8 @@ use Rattle.lk_place.specs.declared.cursors.Cursors.{Cursors}
 use Rattle.lk_place.specs.declared.cursors.Offsets.{Offsets}
 use Rattle.lk_place.specs.InRegions.{past_region, stands_in}
 use Rattle.lk_place.specs.PlacedBefore.{Known, PlacedRecords}
-use Rattle.lk_place.specs.Placement.{IsPlaced, behind, carried_out, first_walked, is_walked, left_at, load_given, moved, placed_records, section_overflow, section_start, walk_alignment}
+use Rattle.lk_place.specs.Placement.{IsPlaced, behind, carried_out, first_walked, is_walked, known_before, left_at, load_given, moved, own_records}
+use Rattle.lk_place.specs.Placement.{section_overflow, section_start, state_at, walk_alignment}
 use Rattle.lk_expressions.specs.Records.{Record, nowhere, record_at}
 use Rattle.lk_place.specs.Setting.{IsReady, Setting, part_count, part_number, size_at}
 
@@ -70,14 +71,14 @@ AreLoaded setting s load records = (j : ℕ) → j < part_count setting.plan.sec
     → (record_at records (part_number setting.plan.sections s j)).lma_offset
     ≡ unwrap_or load (record_at records (part_number setting.plan.sections s j)).mem_offset
 
--- a section is placed, and loaded; it ends below 2^64, and behind it memory stands inside its region
+-- a section is placed, and loaded; its parts end below 2^64, and behind them memory isn't past the end of its region
 pub record PlacesLoaded (setting : Setting) (standing : PlacedRecords) (s : ℕ) (from : Cursors) (records : List Record) (to : Cursors) : Type 0 where
   pub placed : PlacesSection setting s from records to
   pub fits : section_overflow setting s from ≡ None
   pub load : Option ℕ
   pub given : load_given setting standing s from ≡ Ok load
   pub loaded : AreLoaded setting s load records
-  pub inside : past_region setting (stands_in setting.plan s) to.memory ≡ None
+  pub not_past : past_region setting (stands_in setting.plan s) to.memory ≡ None
 
 -- an event that places no section leaves the cursors as they are
 abbrev pub Places : Setting → PlacedRecords → Option ℕ → Cursors → List Record → Cursors → Type 0
@@ -94,11 +95,17 @@ pub record CarriesOut (setting : Setting) (known : Known) (e : OrderEvent) (from
 
 -- ---- laws
 
--- cursors and records are what an event gives exactly where they carry it out so
+-- each event before the last state is carried out so, from the state before it to the next
 abbrev pub EventsAreCarriedOut : Type 0
-EventsAreCarriedOut = (setting : Setting) (known : Known) (e : OrderEvent) (from : Cursors) (records : List Record) (to : Cursors)
-    → IsReady setting → IsInRange setting.plan e → length records ≡ length (all_parts setting.plan.sections)
-    → (carried_out setting known e from ≡ Ok (to, placed_records setting records e)) ↔ CarriesOut setting known e from records to
+EventsAreCarriedOut = (setting : Setting) (states : List Cursors) (records : List Record) → IsReady setting → IsPlaced setting states records
+    → (k : ℕ) (e : OrderEvent) → k + 1 < length states → slice_get setting.plan.events k ≡ Some e
+    → CarriesOut setting (known_before setting states records k) e (state_at states k) records (state_at states (k + 1))
+
+-- whatever is known, an event gives cursors and its section's records exactly where these carry it out so
+abbrev pub GivenIsCarriedOut : Type 0
+GivenIsCarriedOut = (setting : Setting) (known : Known) (e : OrderEvent) (from : Cursors) (records : List Record) (to : Cursors) → IsReady setting
+    → IsInRange setting.plan e → length records ≡ length (all_parts setting.plan.sections)
+    → (carried_out setting known e from ≡ Ok (to, own_records setting records e)) ↔ CarriesOut setting known e from records to
 
 -- a section that one of the first n events places has this part
 pub record IsPlacedBefore (setting : Setting) (n p : ℕ) : Type 0 where

@@ -52,7 +52,7 @@ abbrev pub behind : Record → Offsets
 behind r = record { file = file_end r; memory = mem_end r }
 
 -- the record of a part that is placed from the offsets on, and loaded from where it stands: it starts at the next multiple of its
--- alignment, in the file too where it takes bytes of it
+-- alignment, in the file too where the section is backed by it, else where that offset stands
 unfoldable pub placed_at : Bool → ℕ → ℕ → Offsets → Record
 placed_at backed alignment size from = record {
   file_size = if backed then size else 0;
@@ -80,8 +80,7 @@ walked_from setting s p from = placed_at (is_file_backed setting.plan s) (walk_a
 
 -- the record of the first walked part of a section whose parts begin here
 abbrev pub first_record : Setting → ℕ → Offsets → Record
-first_record setting s begin =
-    placed_at (is_file_backed setting.plan s) (section_alignment setting s) (size_at setting.sizes (first_walked setting s)) begin
+first_record setting s begin = walked_from setting s (first_walked setting s) begin
 
 -- the record of part p of a section whose parts begin here, behind the offsets
 abbrev pub next_record : Setting → ℕ → Offsets → ℕ → Offsets → Record
@@ -208,10 +207,10 @@ abbrev pub unless : {X E : Type 0} → Option E → X → Result X E
 unless None x = Ok x
 unless (Some e) x = Err e
 
--- a section is placed from the cursors on, unless its parts end past 2^64 - 1; it is loaded; and behind it memory isn't to stand past
--- its region. This gives the cursors behind it, and the records of its parts
-abbrev pub section_placed : Setting → PlacedRecords → ℕ → Cursors → Result (Cursors × List Record) Refusal
-section_placed setting standing s from = do
+-- a section is placed from the cursors on, unless its parts end past 2^64 - 1; it is loaded, unless its load address has no value; and
+-- behind it memory isn't to stand past its region. This gives the cursors behind it, and the records of its parts
+abbrev pub section_given : Setting → PlacedRecords → ℕ → Cursors → Result (Cursors × List Record) Refusal
+section_given setting standing s from = do
   to ← unless (section_overflow setting s from) (section_left setting s from)
   load ← load_given setting standing s from
   unless (past_region setting (stands_in setting.plan s) to.memory) (to, map (loaded_by load) (records_by setting s (section_start setting s from)))
@@ -219,7 +218,7 @@ section_placed setting standing s from = do
 -- the same of the section of an event; one that places none leaves the cursors
 abbrev pub placed_by : Setting → PlacedRecords → Option ℕ → Cursors → Result (Cursors × List Record) Refusal
 placed_by setting standing None from = Ok (from, [])
-placed_by setting standing (Some s) from = section_placed setting standing s from
+placed_by setting standing (Some s) from = section_given setting standing s from
 
 -- what an event gives: it moves the cursors, and then places its section, if it has one; or the first refusal of these steps
 abbrev pub carried_out : Setting → Known → OrderEvent → Cursors → Result (Cursors × List Record) Refusal
@@ -238,9 +237,9 @@ numbered k (Past r by) = RegionOverflow r by
 numbered k (NoLoadAddress s cause) = Expression (place.Section s) cause
 
 -- the refusal of event k, by what it gives
-abbrev pub refused : {X : Type 0} → ℕ → Result X Refusal → Option PlaceError
-refused k (Ok x) = None
-refused k (Err refusal) = Some (numbered k refusal)
+abbrev pub refusal_in : {X : Type 0} → ℕ → Result X Refusal → Option PlaceError
+refusal_in k (Ok x) = None
+refusal_in k (Err refusal) = Some (numbered k refusal)
 
 -- ---- the placement
 
@@ -259,7 +258,7 @@ known_before setting states records n = record {
 -- the refusal of the event with this number, if there is one
 abbrev pub refusal_of : Setting → Known → ℕ → Option OrderEvent → Cursors → Option PlaceError
 refusal_of setting known k None from = None
-refusal_of setting known k (Some e) from = refused k (carried_out setting known e from)
+refusal_of setting known k (Some e) from = refusal_in k (carried_out setting known e from)
 
 -- the refusal of the event behind the last state, if there is one
 abbrev pub refusal_behind : Setting → List Cursors → List Record → Option PlaceError
@@ -277,8 +276,8 @@ abbrev pub placement_refusal : Setting → List Cursors → List Record → Opti
 placement_refusal setting states records = first_refusal (start setting) (refusal_behind setting states records)
 
 -- the records of the parts of the section that an event places, among those of all parts
-abbrev pub placed_records : Setting → List Record → OrderEvent → List Record
-placed_records setting records e = option_map_or (part_records setting.plan.sections records) (placed_section e) []
+abbrev pub own_records : Setting → List Record → OrderEvent → List Record
+own_records setting records e = option_map_or (part_records setting.plan.sections records) (placed_section e) []
 
 -- states are the cursors before each event up to the first that is refused, and behind the last where none is; there are none where
 -- the start is refused. Each event that isn't refused gives the next state, and the records of its section's parts. Records are those
@@ -287,7 +286,7 @@ pub record IsPlaced (setting : Setting) (states : List Cursors) (records : List 
   pub begins : BeginsAt (start setting) states
   pub within : length states ≤ length setting.plan.events + 1
   pub steps : (k : ℕ) (e : OrderEvent) → k + 1 < length states → slice_get setting.plan.events k ≡ Some e
-      → carried_out setting (known_before setting states records k) e (state_at states k) ≡ Ok (state_at states (k + 1), placed_records setting records e)
+      → carried_out setting (known_before setting states records k) e (state_at states k) ≡ Ok (state_at states (k + 1), own_records setting records e)
   pub ends : placement_refusal setting states records ≡ None → length states ≡ length setting.plan.events + 1
   pub each : length records ≡ length (all_parts setting.plan.sections)
   pub others : (p : ℕ) → is_placed_before setting.plan (length states - 1) p ≡ false → record_at records p ≡ nowhere

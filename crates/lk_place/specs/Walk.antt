@@ -112,7 +112,7 @@ load_or_none (Err refusal) = None
 abbrev pub load_of : Setting → PlacedRecords → ℕ → Cursors → Option ℕ
 load_of setting standing s from = load_or_none (load_given setting standing s from)
 
--- the cursors behind a section that is placed from the cursors on, and loaded
+-- the cursors behind a section that is placed from the cursors on, and loaded, or the refusal
 abbrev pub left_loaded : Setting → PlacedRecords → ℕ → Cursors → Result Cursors Refusal
 left_loaded setting standing s from = unless (section_overflow setting s from) (section_left setting s from) >>= λ to. load_given setting standing s from >>= λ load. Ok to
 
@@ -128,7 +128,7 @@ left_behind setting (Some s) from = section_left setting s from
 
 -- ---- one event
 
--- the cursors that an event gives
+-- the cursors that an event gives, or the refusal
 abbrev pub cursors_of : Result (Cursors × List Record) Refusal → Result Cursors Refusal
 cursors_of (Ok given) = Ok given.0
 cursors_of (Err refusal) = Err refusal

@@ -1,6 +1,6 @@
 //! Laws of placement, each proved as the contract of a function that does nothing. More stand in lk_place_laws.
 
-ghost use Rattle.lk_place.specs.CarriedOut.{EventsAreCarriedOut, OthersAreNowhere};
+ghost use Rattle.lk_place.specs.CarriedOut.{EventsAreCarriedOut, GivenIsCarriedOut, OthersAreNowhere};
 ghost use Rattle.lk_place.specs.Laws.{FileRangesAreDisjoint};
 ghost use Rattle.lk_place.specs.PlacementLaws.{PartsTakeTheirBytes, PlacementExists, PlacementIsOne};
 ghost use Rattle.lk_place.specs.PositionLaws.{AnswersGoWithoutPositions, PlacementsGoWithoutPositions};
@@ -18,12 +18,17 @@ pub fn placement_is_one()
     ensures { PlacementIsOne }
 {}
 
-/// A law: cursors and records are what an event gives exactly where it moves the cursors and then places its section, if it has one:
-/// walked parts stand one behind the other, each at the least multiple of its alignment at or above the offsets, the others rest
-/// where the first walked one starts, all end below 2^64 and inside the section's region, and are loaded from its load address, or
-/// from where they stand.
+/// A law: each event before the last state moves the cursors, and then places its section, if it has one: walked parts stand one
+/// behind the other, each at the least multiple of its alignment at or above the offsets, the others rest where the first walked one
+/// starts, all are loaded from its load address, or from where they stand, and all end below 2^64, and behind them memory isn't past
+/// the end of the section's region.
 pub fn events_are_carried_out()
     ensures { EventsAreCarriedOut }
+{}
+
+/// A law: whatever is known, an event of the plan gives cursors and its section's records exactly where these carry it out so.
+pub fn given_is_carried_out()
+    ensures { GivenIsCarriedOut }
 {}
 
 /// A law: a part that no event before the last state places is nowhere.

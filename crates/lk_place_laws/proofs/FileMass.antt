@@ -12,7 +12,7 @@ use Rattle.lk_place_laws.specs.PlacementLaws.{PartsTakeFileBytes}
 use Rattle.lk_expressions.specs.Records.{Record, record_at}
 use Rattle.lk_place.specs.Setting.{Setting, part_count, part_number, size_at}
 use Rattle.lk_place.proofs.MassLaws.{no_bytes}
-use Rattle.lk_place.proofs.Passing.{event_carried_out}
+use Rattle.lk_place.proofs.Passing.{events_are_carried_out}
 
 -- what has no bytes takes none in the file, whether bytes stand there or not
 none_there : (backed : Bool) (size : ℕ) → size ≡ 0 → (if backed then size else 0) ≡ 0
@@ -34,5 +34,5 @@ parts_take_file_bytes setting states records ready is unrefused s j there within
     let event = ready.events.placed s there in
     let k : ℕ = event.0 in
     let early : k < length setting.plan.events = slice_get_within setting.plan.events k (Section s) event.1 in
-    let steps : CarriesOut setting (known_before setting states records k) (Section s) (state_at states k) records (state_at states (k + 1)) = event_carried_out setting states records ready is k (Section s) (omega (arith, is.ends unrefused)) event.1 in
+    let steps : CarriesOut setting (known_before setting states records k) (Section s) (state_at states k) records (state_at states (k + 1)) = events_are_carried_out setting states records ready is k (Section s) (omega (arith, is.ends unrefused)) event.1 in
     section_takes_file setting s j steps.entered (state_at states (k + 1)) records steps.places.placed within
